@@ -1,0 +1,3 @@
+-- The laws of loops.
+pub mod For
+pub mod While

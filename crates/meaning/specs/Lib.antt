@@ -1,0 +1,5 @@
+-- How a definition is written: the scalar, the loops, what is asked of a double, the root.
+pub mod Root
+pub mod Number
+pub mod Scalar
+pub mod Loops

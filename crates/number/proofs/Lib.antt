@@ -1,0 +1,2 @@
+-- What comparisons tell of a double.
+pub mod Compared

@@ -1,0 +1,2 @@
+-- What only this crate's own contracts cite.
+pub mod Magnitude

@@ -1,0 +1,94 @@
+/* Threshdune for C: the functions of the crate `exports`, each proved to meet its contract (crates/exports/src/lib.rt).
+ *
+ * A slice is a pointer and a length. Where a function answers a uint64_t that is called a refusal, 0 is none and any other
+ * number is document 01's: nothing was written then. The answers go into the lent slices, of which only the named entries change.
+ * Pointers are not null, also where the length is 0, and what is lent for writing overlaps nothing else.
+ */
+#ifndef THRESHDUNE_H
+#define THRESHDUNE_H
+
+#include <stdbool.h>
+#include <stddef.h>
+#include <stdint.h>
+
+#ifdef __cplusplus
+extern "C" {
+#endif
+
+#define THRESHDUNE_NO_ROOM 14 /* an output is too short */
+
+/* ---- numbers */
+
+/* The double nearest to the root of x; +0.0 at or below 0; an infinity or a NaN as it is. */
+double threshdune_root(double x);
+/* Whether x is neither a NaN nor an infinity. */
+bool threshdune_is_finite(double x);
+/* x without its sign. */
+double threshdune_size(double x);
+/* Whether the size of x is that of y or stands after it in totalOrder. */
+bool threshdune_at_least(double x, double y);
+/* x, or the end of lo to hi that it lies past. */
+double threshdune_clamp(double x, double lo, double hi);
+
+/* ---- values with partials
+ *
+ * A value with partials crosses as a slice, its value and then its partials, and as their count. A count above 27 reads as 27, and
+ * what lies past the slice's end as +0.0. An answer is 28 doubles, the value and 27 partials (+0.0 past the count), and the count.
+ * The refusal is 14 where `out` has no room for them.
+ */
+#define THRESHDUNE_PARTIALS 28
+
+/* Variable i of xs: xs[i], with the partial 1 at i; above 26, or past the slice, +0.0 with no partials. */
+uint64_t threshdune_partials_var(const double *xs, size_t xs_len, uint64_t i, double *out, size_t out_len, uint64_t *count);
+uint64_t threshdune_partials_add(const double *a, size_t a_len, uint64_t a_count, const double *b, size_t b_len,
+                                 uint64_t b_count, double *out, size_t out_len, uint64_t *count);
+uint64_t threshdune_partials_sub(const double *a, size_t a_len, uint64_t a_count, const double *b, size_t b_len,
+                                 uint64_t b_count, double *out, size_t out_len, uint64_t *count);
+uint64_t threshdune_partials_mul(const double *a, size_t a_len, uint64_t a_count, const double *b, size_t b_len,
+                                 uint64_t b_count, double *out, size_t out_len, uint64_t *count);
+uint64_t threshdune_partials_div(const double *a, size_t a_len, uint64_t a_count, const double *b, size_t b_len,
+                                 uint64_t b_count, double *out, size_t out_len, uint64_t *count);
+uint64_t threshdune_partials_neg(const double *a, size_t a_len, uint64_t a_count, double *out, size_t out_len, uint64_t *count);
+uint64_t threshdune_partials_root(const double *a, size_t a_len, uint64_t a_count, double *out, size_t out_len, uint64_t *count);
+/* How far t lies outside lo to hi, 0 inside. */
+uint64_t threshdune_partials_overshoot(const double *t, size_t t_len, uint64_t t_count, double lo, double hi, double *out,
+                                       size_t out_len, uint64_t *count);
+/* Whether the value and each counted partial is finite. */
+bool threshdune_partials_is_fine(const double *a, size_t a_len, uint64_t a_count);
+
+/* ---- vectors of the plane: two doubles, x and y; 14 where `out` has no room for them */
+
+uint64_t threshdune_plane_add(double ax, double ay, double bx, double by, double *out, size_t out_len);
+uint64_t threshdune_plane_sub(double ax, double ay, double bx, double by, double *out, size_t out_len);
+uint64_t threshdune_plane_scale(double ax, double ay, double k, double *out, size_t out_len);
+/* a over its length; (1, 0) where the length's square is below 1e-24. */
+uint64_t threshdune_plane_unit(double ax, double ay, double *out, size_t out_len);
+double threshdune_plane_dot(double ax, double ay, double bx, double by);
+double threshdune_plane_norm(double ax, double ay);
+
+/* ---- vectors with partials: x and then y, each as 28 doubles, and the two counts; a missing count reads as 0.
+ * 14 where `out` has no room for 56 doubles, or `counts` for two; dot and norm answer one value with partials, as above.
+ */
+
+uint64_t threshdune_plane_partials_add(const double *a, size_t a_len, const uint64_t *a_counts, size_t a_counts_len,
+                                       const double *b, size_t b_len, const uint64_t *b_counts, size_t b_counts_len,
+                                       double *out, size_t out_len, uint64_t *counts, size_t counts_len);
+uint64_t threshdune_plane_partials_sub(const double *a, size_t a_len, const uint64_t *a_counts, size_t a_counts_len,
+                                       const double *b, size_t b_len, const uint64_t *b_counts, size_t b_counts_len,
+                                       double *out, size_t out_len, uint64_t *counts, size_t counts_len);
+uint64_t threshdune_plane_partials_scale(const double *a, size_t a_len, const uint64_t *a_counts, size_t a_counts_len,
+                                         const double *k, size_t k_len, uint64_t k_count, double *out, size_t out_len,
+                                         uint64_t *counts, size_t counts_len);
+uint64_t threshdune_plane_partials_unit(const double *a, size_t a_len, const uint64_t *a_counts, size_t a_counts_len,
+                                        double *out, size_t out_len, uint64_t *counts, size_t counts_len);
+uint64_t threshdune_plane_partials_dot(const double *a, size_t a_len, const uint64_t *a_counts, size_t a_counts_len,
+                                       const double *b, size_t b_len, const uint64_t *b_counts, size_t b_counts_len,
+                                       double *out, size_t out_len, uint64_t *count);
+uint64_t threshdune_plane_partials_norm(const double *a, size_t a_len, const uint64_t *a_counts, size_t a_counts_len,
+                                        double *out, size_t out_len, uint64_t *count);
+
+#ifdef __cplusplus
+}
+#endif
+
+#endif

@@ -1,5 +1,7 @@
--- How a definition is written: the scalar, the loops, what is asked of a double, the root.
+-- How a definition is written: the scalar, the loops, what is asked of a double, the root, tables, refusals.
 pub mod Root
 pub mod Number
 pub mod Scalar
 pub mod Loops
+pub mod Table
+pub mod Refusals

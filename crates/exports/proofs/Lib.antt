@@ -1,0 +1,3 @@
+-- Laws of lent slices and of what is answered in them.
+pub mod Slices
+pub mod Answers

@@ -1,0 +1,28 @@
+-- `exports::threshdune_plane_partials_norm` meets its contract.
+use mathlib.Core.Path.{_∙_, ap}
+use Rattle.partials.specs.Dual.{dual}
+use Rattle.plane.specs.Vector.{normV}
+use borrow.Author.Needs.{needs}
+use Rattle.exports.proofs.threshdune_plane_partials_norm.Statement.{statement}
+use Rattle.exports.proofs.threshdune_plane_partials_norm.Tie as tie
+
+read-vector-requires : tie.Need-read-vector-requires
+read-vector-requires c κs = search needs
+
+norm-requires : tie.Need-norm-requires
+norm-requires c κs = search needs
+
+answer-requires : tie.Need-answer-requires
+answer-requires c κs = search needs
+
+same-length : tie.Need-same-length
+same-length c = search needs
+
+returns : tie.Need-returns
+returns c =
+    let op = c .before .before .before .before .before in
+    rw (op .norm .ensures ∙ ap (normV dual) (op .before .read-vector .ensures)) at (c .before .before .answer .ensures)
+
+pub threshdune-plane-partials-norm-spec : {M : Type 1} → statement M
+threshdune-plane-partials-norm-spec =
+    tie.close (tie.spec read-vector-requires norm-requires answer-requires same-length returns)

@@ -1,0 +1,2 @@
+-- How numbers cross into C and back.
+pub mod Crossing

@@ -1,0 +1,449 @@
+// The library for C and Rust to link: the same proved functions, over numbers and slices. include/threshdune.h declares them.
+ghost use mathlib.Core.Path.{_≡_};
+ghost use mathlib.Core.List.{_∷_};
+ghost use Prim.Native.Nat.{_+_, _≤_};
+ghost use lib.ListN.{length, getD};
+ghost use lib.Seq.{paste};
+ghost use lib.Ieee.Scale.{finite};
+ghost use Rattle.meaning.specs.Root.{rootOf};
+ghost use Rattle.meaning.specs.Number.{sizeOf, atLeast, clampOf};
+ghost use Rattle.meaning.specs.Scalar.{plain};
+ghost use Rattle.partials.specs.Dual.{dual, varDv, addDv, subDv, mulDv, divDv, negDv, rootDv, overshootDv, fineDv};
+ghost use Rattle.plane.specs.Vector.{addV, subV, scaleV, dotV, normV, unitV};
+ghost use Rattle.plane.specs.View.{view, viewD};
+ghost use Rattle.exports.specs.Crossing.{entryOf, readDv, readV, Answered, AnsweredV, AnsweredP};
+use partials::Dv;
+use plane::P2;
+use plane::P2d;
+
+// ---- numbers
+
+// The double nearest to the root of x; +0.0 at or below 0; infinity and a NaN stay.
+#[no_mangle]
+pub extern "C" fn threshdune_root(x: f64) -> f64
+    ensures { λ r. ⌜ r ≡ rootOf x ⌝ }
+{
+    root::root(x)
+}
+
+// Whether x is neither a NaN nor an infinity.
+#[no_mangle]
+pub extern "C" fn threshdune_is_finite(x: f64) -> bool
+    ensures { λ r. ⌜ r ≡ finite x ⌝ }
+{
+    number::is_finite(x)
+}
+
+// x without its sign.
+#[no_mangle]
+pub extern "C" fn threshdune_size(x: f64) -> f64
+    ensures { λ r. ⌜ r ≡ sizeOf x ⌝ }
+{
+    number::size(x)
+}
+
+// Whether the size of x is that of y or stands after it in totalOrder.
+#[no_mangle]
+pub extern "C" fn threshdune_at_least(x: f64, y: f64) -> bool
+    ensures { λ r. ⌜ r ≡ atLeast x y ⌝ }
+{
+    number::at_least(x, y)
+}
+
+// x, or the end of lo to hi that it lies past.
+#[no_mangle]
+pub extern "C" fn threshdune_clamp(x: f64, lo: f64, hi: f64) -> f64
+    ensures { λ r. ⌜ r ≡ clampOf x lo hi ⌝ }
+{
+    number::clamp(x, lo, hi)
+}
+
+// ---- crossing
+
+fn entry(s: &[f64], i: usize) -> f64
+    ensures { λ r. ⌜ r ≡ entryOf (now (s .entry)) i ⌝ }
+{
+    if i < s.len() {
+        return s[i];
+    }
+    0.0
+}
+
+// The count at i, 0 where there is none.
+fn count_at(ns: &[u64], i: usize) -> usize
+    ensures { λ r. ⌜ r ≡ getD (now (ns .entry)) i 0 ⌝ }
+{
+    if i < ns.len() {
+        return ns[i] as usize;
+    }
+    0
+}
+
+// The value with n partials that stands in s from index at on.
+fn read(s: &[f64], at: usize, n: usize) -> Dv
+    requires { ⌜ at ≤ 28 ⌝ }
+    ensures { λ r. ⌜ r ≡ readDv (now (s .entry)) at n ⌝ }
+{
+    let mut g = [0.0; 27];
+    for k in 0..27 {
+        g[k] = entry(s, at + 1 + k);
+    }
+    Dv {
+        v: entry(s, at),
+        g,
+        n,
+    }
+}
+
+// The vector with partials that stands in s.
+fn read_vector(s: &[f64], ns: &[u64]) -> P2d
+    ensures { λ r. ⌜ viewD r ≡ readV (now (s .entry)) (now (ns .entry)) ⌝ }
+{
+    let x = read(s, 0, count_at(ns, 0));
+    let y = read(s, 28, count_at(ns, 1));
+    P2d { x, y }
+}
+
+// Puts the numbers of d into out from index at on.
+fn write(d: Dv, out: &mut [f64], at: usize)
+    requires { ⌜ at + 28 ≤ length (now out) ⌝ }
+    ensures { λ _. ⌜ now (out .exit) ≡ paste (now (out .entry)) at (d .v ∷ d .g) 28 ⌝ }
+{
+    let g = d.g;
+    out[at] = d.v;
+    buffer::put(&g, 27, out, at + 1);
+}
+
+// Answers a value with partials: 14 where out has no room for it.
+fn answer(d: Dv, out: &mut [f64], count: &mut u64) -> u64
+    ensures { λ r. ⌜ Answered d (now (out .entry)) (now (count .entry)) r (now (out .exit)) (now (count .exit)) ⌝ }
+{
+    if out.len() < 28 {
+        return 14;
+    }
+    write(d, out, 0);
+    *count = d.n as u64;
+    0
+}
+
+// Answers a vector with partials: 14 where out or counts has no room for it.
+fn answer_vector(a: P2d, out: &mut [f64], counts: &mut [u64]) -> u64
+    ensures { λ r. ⌜ AnsweredV (viewD a) (now (out .entry)) (now (counts .entry)) r (now (out .exit)) (now (counts .exit)) ⌝ }
+{
+    if out.len() < 56 {
+        return 14;
+    }
+    if counts.len() < 2 {
+        return 14;
+    }
+    write(a.x, out, 0);
+    write(a.y, out, 28);
+    counts[0] = a.x.n as u64;
+    counts[1] = a.y.n as u64;
+    0
+}
+
+// Answers two doubles: 14 where out has no room for them.
+fn answer_pair(a: P2, out: &mut [f64]) -> u64
+    ensures { λ r. ⌜ AnsweredP (view a) (now (out .entry)) r (now (out .exit)) ⌝ }
+{
+    if out.len() < 2 {
+        return 14;
+    }
+    out[0] = a.x;
+    out[1] = a.y;
+    0
+}
+
+// ---- values with partials
+
+// Variable i of xs.
+#[no_mangle]
+pub extern "C" fn threshdune_partials_var(
+    xs: &[f64],
+    i: u64,
+    out: &mut [f64],
+    count: &mut u64,
+) -> u64
+    ensures { λ r. ⌜ Answered (varDv (now (xs .entry)) i) (now (out .entry)) (now (count .entry)) r (now (out .exit)) (now (count .exit)) ⌝ }
+{
+    answer(Dv::var(xs, i as usize), out, count)
+}
+
+// a + b.
+#[no_mangle]
+pub extern "C" fn threshdune_partials_add(
+    a: &[f64],
+    a_count: u64,
+    b: &[f64],
+    b_count: u64,
+    out: &mut [f64],
+    count: &mut u64,
+) -> u64
+    ensures { λ r. ⌜ Answered (addDv (readDv (now (a .entry)) 0 «a_count») (readDv (now (b .entry)) 0 «b_count»)) (now (out .entry)) (now (count .entry)) r (now (out .exit)) (now (count .exit)) ⌝ }
+{
+    let x = read(a, 0, a_count as usize);
+    let y = read(b, 0, b_count as usize);
+    answer(x.add(y), out, count)
+}
+
+// a - b.
+#[no_mangle]
+pub extern "C" fn threshdune_partials_sub(
+    a: &[f64],
+    a_count: u64,
+    b: &[f64],
+    b_count: u64,
+    out: &mut [f64],
+    count: &mut u64,
+) -> u64
+    ensures { λ r. ⌜ Answered (subDv (readDv (now (a .entry)) 0 «a_count») (readDv (now (b .entry)) 0 «b_count»)) (now (out .entry)) (now (count .entry)) r (now (out .exit)) (now (count .exit)) ⌝ }
+{
+    let x = read(a, 0, a_count as usize);
+    let y = read(b, 0, b_count as usize);
+    answer(x.sub(y), out, count)
+}
+
+// a * b.
+#[no_mangle]
+pub extern "C" fn threshdune_partials_mul(
+    a: &[f64],
+    a_count: u64,
+    b: &[f64],
+    b_count: u64,
+    out: &mut [f64],
+    count: &mut u64,
+) -> u64
+    ensures { λ r. ⌜ Answered (mulDv (readDv (now (a .entry)) 0 «a_count») (readDv (now (b .entry)) 0 «b_count»)) (now (out .entry)) (now (count .entry)) r (now (out .exit)) (now (count .exit)) ⌝ }
+{
+    let x = read(a, 0, a_count as usize);
+    let y = read(b, 0, b_count as usize);
+    answer(x.mul(y), out, count)
+}
+
+// a / b.
+#[no_mangle]
+pub extern "C" fn threshdune_partials_div(
+    a: &[f64],
+    a_count: u64,
+    b: &[f64],
+    b_count: u64,
+    out: &mut [f64],
+    count: &mut u64,
+) -> u64
+    ensures { λ r. ⌜ Answered (divDv (readDv (now (a .entry)) 0 «a_count») (readDv (now (b .entry)) 0 «b_count»)) (now (out .entry)) (now (count .entry)) r (now (out .exit)) (now (count .exit)) ⌝ }
+{
+    let x = read(a, 0, a_count as usize);
+    let y = read(b, 0, b_count as usize);
+    answer(x.div(y), out, count)
+}
+
+// -a.
+#[no_mangle]
+pub extern "C" fn threshdune_partials_neg(
+    a: &[f64],
+    a_count: u64,
+    out: &mut [f64],
+    count: &mut u64,
+) -> u64
+    ensures { λ r. ⌜ Answered (negDv (readDv (now (a .entry)) 0 «a_count»)) (now (out .entry)) (now (count .entry)) r (now (out .exit)) (now (count .exit)) ⌝ }
+{
+    let x = read(a, 0, a_count as usize);
+    answer(x.neg(), out, count)
+}
+
+// The root of a.
+#[no_mangle]
+pub extern "C" fn threshdune_partials_root(
+    a: &[f64],
+    a_count: u64,
+    out: &mut [f64],
+    count: &mut u64,
+) -> u64
+    ensures { λ r. ⌜ Answered (rootDv (readDv (now (a .entry)) 0 «a_count»)) (now (out .entry)) (now (count .entry)) r (now (out .exit)) (now (count .exit)) ⌝ }
+{
+    let x = read(a, 0, a_count as usize);
+    answer(x.root(), out, count)
+}
+
+// How far t lies outside lo to hi.
+#[no_mangle]
+pub extern "C" fn threshdune_partials_overshoot(
+    t: &[f64],
+    t_count: u64,
+    lo: f64,
+    hi: f64,
+    out: &mut [f64],
+    count: &mut u64,
+) -> u64
+    ensures { λ r. ⌜ Answered (overshootDv (readDv (now (t .entry)) 0 «t_count») lo hi) (now (out .entry)) (now (count .entry)) r (now (out .exit)) (now (count .exit)) ⌝ }
+{
+    let x = read(t, 0, t_count as usize);
+    answer(x.overshoot(lo, hi), out, count)
+}
+
+// Whether the value and each counted partial is finite.
+#[no_mangle]
+pub extern "C" fn threshdune_partials_is_fine(a: &[f64], a_count: u64) -> bool
+    ensures { λ r. ⌜ r ≡ fineDv (readDv (now (a .entry)) 0 «a_count») ⌝ }
+{
+    let x = read(a, 0, a_count as usize);
+    x.is_fine()
+}
+
+// ---- vectors
+
+// a + b.
+#[no_mangle]
+pub extern "C" fn threshdune_plane_add(ax: f64, ay: f64, bx: f64, by: f64, out: &mut [f64]) -> u64
+    ensures { λ r. ⌜ AnsweredP (addV plain (record { x = ax; y = ay }) (record { x = bx; y = by })) (now (out .entry)) r (now (out .exit)) ⌝ }
+{
+    let a = P2 { x: ax, y: ay };
+    let b = P2 { x: bx, y: by };
+    answer_pair(a.add(b), out)
+}
+
+// a - b.
+#[no_mangle]
+pub extern "C" fn threshdune_plane_sub(ax: f64, ay: f64, bx: f64, by: f64, out: &mut [f64]) -> u64
+    ensures { λ r. ⌜ AnsweredP (subV plain (record { x = ax; y = ay }) (record { x = bx; y = by })) (now (out .entry)) r (now (out .exit)) ⌝ }
+{
+    let a = P2 { x: ax, y: ay };
+    let b = P2 { x: bx, y: by };
+    answer_pair(a.sub(b), out)
+}
+
+// k times a.
+#[no_mangle]
+pub extern "C" fn threshdune_plane_scale(ax: f64, ay: f64, k: f64, out: &mut [f64]) -> u64
+    ensures { λ r. ⌜ AnsweredP (scaleV plain (record { x = ax; y = ay }) k) (now (out .entry)) r (now (out .exit)) ⌝ }
+{
+    let a = P2 { x: ax, y: ay };
+    answer_pair(a.scale(k), out)
+}
+
+// The direction of a.
+#[no_mangle]
+pub extern "C" fn threshdune_plane_unit(ax: f64, ay: f64, out: &mut [f64]) -> u64
+    ensures { λ r. ⌜ AnsweredP (unitV plain (record { x = ax; y = ay })) (now (out .entry)) r (now (out .exit)) ⌝ }
+{
+    let a = P2 { x: ax, y: ay };
+    answer_pair(a.unit(), out)
+}
+
+// The inner product of a and b.
+#[no_mangle]
+pub extern "C" fn threshdune_plane_dot(ax: f64, ay: f64, bx: f64, by: f64) -> f64
+    ensures { λ r. ⌜ r ≡ dotV plain (record { x = ax; y = ay }) (record { x = bx; y = by }) ⌝ }
+{
+    let a = P2 { x: ax, y: ay };
+    let b = P2 { x: bx, y: by };
+    a.dot(b)
+}
+
+// The length of a.
+#[no_mangle]
+pub extern "C" fn threshdune_plane_norm(ax: f64, ay: f64) -> f64
+    ensures { λ r. ⌜ r ≡ normV plain (record { x = ax; y = ay }) ⌝ }
+{
+    let a = P2 { x: ax, y: ay };
+    a.norm()
+}
+
+// ---- vectors with partials
+
+// a + b.
+#[no_mangle]
+pub extern "C" fn threshdune_plane_partials_add(
+    a: &[f64],
+    a_counts: &[u64],
+    b: &[f64],
+    b_counts: &[u64],
+    out: &mut [f64],
+    counts: &mut [u64],
+) -> u64
+    ensures { λ r. ⌜ AnsweredV (addV dual (readV (now (a .entry)) (now («a_counts» .entry))) (readV (now (b .entry)) (now («b_counts» .entry)))) (now (out .entry)) (now (counts .entry)) r (now (out .exit)) (now (counts .exit)) ⌝ }
+{
+    let x = read_vector(a, a_counts);
+    let y = read_vector(b, b_counts);
+    answer_vector(x.add(y), out, counts)
+}
+
+// a - b.
+#[no_mangle]
+pub extern "C" fn threshdune_plane_partials_sub(
+    a: &[f64],
+    a_counts: &[u64],
+    b: &[f64],
+    b_counts: &[u64],
+    out: &mut [f64],
+    counts: &mut [u64],
+) -> u64
+    ensures { λ r. ⌜ AnsweredV (subV dual (readV (now (a .entry)) (now («a_counts» .entry))) (readV (now (b .entry)) (now («b_counts» .entry)))) (now (out .entry)) (now (counts .entry)) r (now (out .exit)) (now (counts .exit)) ⌝ }
+{
+    let x = read_vector(a, a_counts);
+    let y = read_vector(b, b_counts);
+    answer_vector(x.sub(y), out, counts)
+}
+
+// k times a.
+#[no_mangle]
+pub extern "C" fn threshdune_plane_partials_scale(
+    a: &[f64],
+    a_counts: &[u64],
+    k: &[f64],
+    k_count: u64,
+    out: &mut [f64],
+    counts: &mut [u64],
+) -> u64
+    ensures { λ r. ⌜ AnsweredV (scaleV dual (readV (now (a .entry)) (now («a_counts» .entry))) (readDv (now (k .entry)) 0 «k_count»)) (now (out .entry)) (now (counts .entry)) r (now (out .exit)) (now (counts .exit)) ⌝ }
+{
+    let x = read_vector(a, a_counts);
+    let y = read(k, 0, k_count as usize);
+    answer_vector(x.scale(y), out, counts)
+}
+
+// The direction of a.
+#[no_mangle]
+pub extern "C" fn threshdune_plane_partials_unit(
+    a: &[f64],
+    a_counts: &[u64],
+    out: &mut [f64],
+    counts: &mut [u64],
+) -> u64
+    ensures { λ r. ⌜ AnsweredV (unitV dual (readV (now (a .entry)) (now («a_counts» .entry)))) (now (out .entry)) (now (counts .entry)) r (now (out .exit)) (now (counts .exit)) ⌝ }
+{
+    let x = read_vector(a, a_counts);
+    answer_vector(x.unit(), out, counts)
+}
+
+// The inner product of a and b.
+#[no_mangle]
+pub extern "C" fn threshdune_plane_partials_dot(
+    a: &[f64],
+    a_counts: &[u64],
+    b: &[f64],
+    b_counts: &[u64],
+    out: &mut [f64],
+    count: &mut u64,
+) -> u64
+    ensures { λ r. ⌜ Answered (dotV dual (readV (now (a .entry)) (now («a_counts» .entry))) (readV (now (b .entry)) (now («b_counts» .entry)))) (now (out .entry)) (now (count .entry)) r (now (out .exit)) (now (count .exit)) ⌝ }
+{
+    let x = read_vector(a, a_counts);
+    let y = read_vector(b, b_counts);
+    answer(x.dot(y), out, count)
+}
+
+// The length of a.
+#[no_mangle]
+pub extern "C" fn threshdune_plane_partials_norm(
+    a: &[f64],
+    a_counts: &[u64],
+    out: &mut [f64],
+    count: &mut u64,
+) -> u64
+    ensures { λ r. ⌜ Answered (normV dual (readV (now (a .entry)) (now («a_counts» .entry)))) (now (out .entry)) (now (count .entry)) r (now (out .exit)) (now (count .exit)) ⌝ }
+{
+    let x = read_vector(a, a_counts);
+    answer(x.norm(), out, count)
+}

@@ -1,0 +1,2 @@
+-- How a line of the file writes a number.
+pub mod Word

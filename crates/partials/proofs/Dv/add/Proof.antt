@@ -1,0 +1,15 @@
+-- `partials::Dv::add` meets its contract.
+use Rattle.partials.specs.Dual.{addDv}
+use borrow.Author.Needs.{needs}
+use Rattle.partials.proofs.Dv.add.Statement.{statement}
+use Rattle.partials.proofs.Dv.add.Tie as tie
+
+zip-requires : tie.Need-zip-requires
+zip-requires c κs = search needs
+
+returns : tie.Need-returns
+unfolding addDv
+returns c = c .zip .ensures
+
+pub add-spec : {M : Type 1} → statement M
+add-spec = tie.close (tie.spec zip-requires returns)

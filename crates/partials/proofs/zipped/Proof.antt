@@ -1,0 +1,76 @@
+-- `partials::zipped` meets its contract: the loop stores one partial in each turn.
+use Prim.Native.Nat.{_-_}
+use lib.ListN.{set}
+use Rattle.meaning.proofs.For.{At, first, next, last}
+use Rattle.partials.specs.Dual.{partAt, partials}
+use Rattle.partials.specs.Rule.{ruleOf}
+use borrow.Author.Needs.{needs}
+use Rattle.partials.proofs.zipped.Statement.{statement}
+use Rattle.partials.proofs.zipped.Tie as tie
+
+abbrev Inv-loop : tie.InvT-loop
+Inv-loop rule n av ag an bv bg bn g₀ k₀ g k =
+    At 0 n (λ i l. set l i (ruleOf rule av bv (partAt ag an i) (partAt bg bn i))) g₀ k g
+
+abbrev μ-loop : tie.MeasureT-loop
+μ-loop rule n av ag an bv bg bn g₀ k₀ g k = n - k
+
+counted-requires : tie.Need-counted-requires Inv-loop μ-loop
+counted-requires c κs = search needs
+
+counted-requires-2 : tie.Need-counted-requires-2 Inv-loop μ-loop
+counted-requires-2 c κs = search needs
+
+loop-holds : tie.Need-loop-holds Inv-loop μ-loop
+loop-holds c = first (search needs)
+
+part-requires : tie.Need-part-requires Inv-loop μ-loop
+part-requires c κs = search needs
+
+part-requires-2 : tie.Need-part-requires-2 Inv-loop μ-loop
+part-requires-2 c κs = search needs
+
+joined-requires : tie.Need-joined-requires Inv-loop μ-loop
+joined-requires c κs = search needs
+
+mul-g : tie.Need-mul-g Inv-loop μ-loop
+mul-g c = search needs
+
+array-write-g : tie.Need-array-write-g Inv-loop μ-loop
+array-write-g c = search needs
+
+add-k : tie.Need-add-k Inv-loop μ-loop
+add-k c = search needs
+
+loop-less : tie.Need-loop-less Inv-loop μ-loop
+loop-less c = search needs
+
+loop-again : tie.Need-loop-again Inv-loop μ-loop
+loop-again c =
+    next (c .before .before .before .before .before .before .loop .inv) (search needs)
+    (rw (c .joined .ensures, c .before .part2 .ensures, c .before .before .before .part .ensures))
+
+returns : tie.Need-returns Inv-loop μ-loop
+unfolding partials
+returns c =
+    let l = c .before in
+    rw (l .before .counted2 .ensures .0, l .before .before .before .counted .ensures .0) at (last (l .loop .inv) (search needs))
+
+pub zipped-spec : {M : Type 1} → statement M
+zipped-spec =
+    tie.close
+    (tie.spec
+    Inv-loop
+    μ-loop
+    counted-requires
+    counted-requires-2
+    loop-holds
+    part-requires
+    part-requires-2
+    joined-requires
+    mul-g
+    array-write-g
+    add-k
+    loop-less
+    loop-again
+    returns)

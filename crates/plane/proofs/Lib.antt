@@ -1,0 +1,2 @@
+-- What the two copies' proofs share.
+pub mod Laws

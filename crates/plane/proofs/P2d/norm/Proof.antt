@@ -1,0 +1,33 @@
+-- `plane::P2d::norm` meets its contract.
+use mathlib.Core.Path.{_∙_}
+use Rattle.partials.specs.Dual.{dual}
+use Rattle.plane.proofs.Laws.{norm-near, norm-far}
+use borrow.Author.Needs.{needs}
+use Rattle.plane.proofs.P2d.norm.Statement.{statement}
+use Rattle.plane.proofs.P2d.norm.Tie as tie
+
+dot-requires : tie.Need-dot-requires
+dot-requires c κs = search needs
+
+root-requires : tie.Need-root-requires
+root-requires c κs = search needs
+
+cst-requires : tie.Need-cst-requires
+cst-requires c κs = search needs
+
+returns : tie.Need-returns
+returns c =
+    let test = c .before .before in
+    c .cst .ensures ∙ rw (c .before .root .ensures) (norm-near dual _ (test .before .before .dot .ensures) (test .if1 .taken))
+
+root-requires-2 : tie.Need-root-requires-2
+root-requires-2 c κs = search needs
+
+returns-2 : tie.Need-returns-2
+returns-2 c =
+    let test = c .before in
+    c .root2 .ensures ∙ norm-far dual _ (test .before .before .dot .ensures) (test .if1 .left)
+
+pub norm-spec : {M : Type 1} → statement M
+norm-spec =
+    tie.close (tie.spec dot-requires root-requires cst-requires returns root-requires-2 returns-2)

@@ -1,0 +1,43 @@
+-- `plane::P2d::unit` meets its contract.
+use Rattle.partials.specs.Dual.{dual}
+use Rattle.plane.proofs.Laws.{unit-none, unit-some}
+use borrow.Author.Needs.{needs}
+use Rattle.plane.proofs.P2d.unit.Statement.{statement}
+use Rattle.plane.proofs.P2d.unit.Tie as tie
+
+norm-requires : tie.Need-norm-requires
+norm-requires c κs = search needs
+
+cst-requires : tie.Need-cst-requires
+cst-requires c κs = search needs
+
+cst-requires-2 : tie.Need-cst-requires-2
+cst-requires-2 c κs = search needs
+
+returns : tie.Need-returns
+returns c =
+    let test = c .before .before in
+    rw (c .cst2 .ensures, c .before .cst .ensures) (unit-none dual _ (test .before .before .norm .ensures) (test .if1 .taken))
+
+div-requires : tie.Need-div-requires
+div-requires c κs = search needs
+
+div-requires-2 : tie.Need-div-requires-2
+div-requires-2 c κs = search needs
+
+returns-2 : tie.Need-returns-2
+returns-2 c =
+    let test = c .before .before in
+    rw (c .div2 .ensures, c .before .div .ensures) (unit-some dual _ (test .before .before .norm .ensures) (test .if1 .left))
+
+pub unit-spec : {M : Type 1} → statement M
+unit-spec =
+    tie.close
+    (tie.spec
+    norm-requires
+    cst-requires
+    cst-requires-2
+    returns
+    div-requires
+    div-requires-2
+    returns-2)

@@ -1,0 +1,145 @@
+//! The proved functions, as include/threshdune.h has them. A C bool is taken as the byte it is:
+//! a third value would be a difference, not undefined behaviour of this program.
+
+mod c {
+    unsafe extern "C" {
+        pub fn threshdune_root(x: f64) -> f64;
+        pub fn threshdune_is_finite(x: f64) -> u8;
+        pub fn threshdune_size(x: f64) -> f64;
+        pub fn threshdune_at_least(x: f64, y: f64) -> u8;
+        pub fn threshdune_clamp(x: f64, lo: f64, hi: f64) -> f64;
+        pub fn threshdune_plane_dot(ax: f64, ay: f64, bx: f64, by: f64) -> f64;
+        pub fn threshdune_plane_norm(ax: f64, ay: f64) -> f64;
+    }
+}
+
+// These take plain numbers and no memory, so any call is sound.
+
+pub fn root(x: f64) -> f64 {
+    unsafe { c::threshdune_root(x) }
+}
+
+pub fn is_finite(x: f64) -> u8 {
+    unsafe { c::threshdune_is_finite(x) }
+}
+
+pub fn size(x: f64) -> f64 {
+    unsafe { c::threshdune_size(x) }
+}
+
+pub fn at_least(x: f64, y: f64) -> u8 {
+    unsafe { c::threshdune_at_least(x, y) }
+}
+
+pub fn clamp(x: f64, lo: f64, hi: f64) -> f64 {
+    unsafe { c::threshdune_clamp(x, lo, hi) }
+}
+
+pub fn plane_dot(a: [f64; 2], b: [f64; 2]) -> f64 {
+    unsafe { c::threshdune_plane_dot(a[0], a[1], b[0], b[1]) }
+}
+
+pub fn plane_norm(a: [f64; 2]) -> f64 {
+    unsafe { c::threshdune_plane_norm(a[0], a[1]) }
+}
+
+/// Declares the functions of one shape, and the shape's type for tables of them.
+macro_rules! shape {
+    ($shape:ident, $arguments:tt, $($name:ident)*) => {
+        pub type $shape = unsafe extern "C" fn $arguments -> u64;
+        unsafe extern "C" {
+            $(pub fn $name $arguments -> u64;)*
+        }
+    };
+}
+
+// One value with partials to another.
+shape!(One, (a: *const f64, a_len: usize, a_count: u64,
+             out: *mut f64, out_len: usize, count: *mut u64),
+    threshdune_partials_neg threshdune_partials_root);
+
+// Two values with partials to one.
+shape!(Two, (a: *const f64, a_len: usize, a_count: u64, b: *const f64, b_len: usize, b_count: u64,
+             out: *mut f64, out_len: usize, count: *mut u64),
+    threshdune_partials_add threshdune_partials_sub threshdune_partials_mul threshdune_partials_div);
+
+// Two vectors to one.
+shape!(Plane, (ax: f64, ay: f64, bx: f64, by: f64, out: *mut f64, out_len: usize),
+    threshdune_plane_add threshdune_plane_sub);
+
+// Two vectors with partials to one.
+shape!(PlanePartials, (a: *const f64, a_len: usize, a_counts: *const u64, a_counts_len: usize,
+                       b: *const f64, b_len: usize, b_counts: *const u64, b_counts_len: usize,
+                       out: *mut f64, out_len: usize, counts: *mut u64, counts_len: usize),
+    threshdune_plane_partials_add threshdune_plane_partials_sub);
+
+unsafe extern "C" {
+    pub fn threshdune_partials_var(
+        xs: *const f64,
+        xs_len: usize,
+        i: u64,
+        out: *mut f64,
+        out_len: usize,
+        count: *mut u64,
+    ) -> u64;
+    pub fn threshdune_partials_overshoot(
+        t: *const f64,
+        t_len: usize,
+        t_count: u64,
+        lo: f64,
+        hi: f64,
+        out: *mut f64,
+        out_len: usize,
+        count: *mut u64,
+    ) -> u64;
+    pub fn threshdune_partials_is_fine(a: *const f64, a_len: usize, a_count: u64) -> u8;
+
+    pub fn threshdune_plane_scale(ax: f64, ay: f64, k: f64, out: *mut f64, out_len: usize) -> u64;
+    pub fn threshdune_plane_unit(ax: f64, ay: f64, out: *mut f64, out_len: usize) -> u64;
+
+    pub fn threshdune_plane_partials_scale(
+        a: *const f64,
+        a_len: usize,
+        a_counts: *const u64,
+        a_counts_len: usize,
+        k: *const f64,
+        k_len: usize,
+        k_count: u64,
+        out: *mut f64,
+        out_len: usize,
+        counts: *mut u64,
+        counts_len: usize,
+    ) -> u64;
+    pub fn threshdune_plane_partials_unit(
+        a: *const f64,
+        a_len: usize,
+        a_counts: *const u64,
+        a_counts_len: usize,
+        out: *mut f64,
+        out_len: usize,
+        counts: *mut u64,
+        counts_len: usize,
+    ) -> u64;
+    pub fn threshdune_plane_partials_dot(
+        a: *const f64,
+        a_len: usize,
+        a_counts: *const u64,
+        a_counts_len: usize,
+        b: *const f64,
+        b_len: usize,
+        b_counts: *const u64,
+        b_counts_len: usize,
+        out: *mut f64,
+        out_len: usize,
+        count: *mut u64,
+    ) -> u64;
+    pub fn threshdune_plane_partials_norm(
+        a: *const f64,
+        a_len: usize,
+        a_counts: *const u64,
+        a_counts_len: usize,
+        out: *mut f64,
+        out_len: usize,
+        count: *mut u64,
+    ) -> u64;
+}

@@ -1,0 +1,7 @@
+-- What the two copies' proofs share, the law of the window, and worked values.
+pub mod Small
+pub mod Signed
+pub mod InTable
+pub mod Laws
+pub mod Window
+pub mod Examples

@@ -1,0 +1,54 @@
+-- `basis::plain::basis` meets its contract, for every i.
+use mathlib.Core.Path.{_∙_}
+use Rattle.meaning.specs.Scalar.{plain}
+use Rattle.basis.proofs.Laws.{derivatives-none, derivatives-of, basis-low, basis-high, basis-in}
+use borrow.Author.Needs.{needs}
+use Rattle.basis.proofs.plain.basis.Statement.{statement}
+use Rattle.basis.proofs.plain.basis.Tie as tie
+
+returns : tie.Need-returns
+returns c = basis-low plain _ _ _ _ (c .if1 .taken)
+
+returns-2 : tie.Need-returns-2
+returns-2 c = basis-high plain _ _ _ _ (search needs) (search needs)
+
+triangle-of-requires : tie.Need-triangle-of-requires
+triangle-of-requires c κs = search needs
+
+values-of-requires : tie.Need-values-of-requires
+values-of-requires c κs = search needs
+
+returns-3 : tie.Need-returns-3
+returns-3 c =
+    derivatives-none plain _ _ _ _ (search needs) (c .before .before .triangle-of .ensures) (c .before .values-of .ensures)
+    ∙ basis-in plain _ _ _ _ (search needs) (search needs)
+
+orders-of-requires : tie.Need-orders-of-requires
+orders-of-requires c κs = search needs
+
+functions-of-requires : tie.Need-functions-of-requires
+functions-of-requires c κs = search needs
+
+scaled-by-requires : tie.Need-scaled-by-requires
+scaled-by-requires c κs = search needs
+
+returns-4 : tie.Need-returns-4
+returns-4 c =
+    let table = c .before .before .before .before .before .triangle-of .ensures in
+    let values = c .before .before .before .before .values-of .ensures in
+    derivatives-of plain _ _ _ _ table values (c .before .before .orders-of .ensures) (c .before .functions-of .ensures) (c .scaled-by .ensures)
+    ∙ basis-in plain _ _ _ _ (search needs) (search needs)
+
+pub basis-spec : {M : Type 1} → statement M
+basis-spec =
+    tie.close
+    (tie.spec
+    returns
+    returns-2
+    triangle-of-requires
+    values-of-requires
+    returns-3
+    orders-of-requires
+    functions-of-requires
+    scaled-by-requires
+    returns-4)

@@ -1,4 +1,4 @@
--- What the two copies' proofs share, the law of the window, and worked values.
+-- What the two copies' proofs share, the laws of the window, and worked values.
 pub mod Small
 pub mod Signed
 pub mod InTable

@@ -7,7 +7,8 @@ use Rattle.meaning.specs.Scalar.{Ops}
 use Rattle.meaning.specs.Loops.{turns}
 use Rattle.meaning.specs.Table.{at1}
 use Rattle.basis.specs.Triangle.{Sides, sidesTurn, triangleOf}
-use Rattle.basis.specs.Basis.{derivativesOf, window}
+use Rattle.basis.specs.Basis.{derivativesOf, basisOf, window}
+use Rattle.basis.proofs.Laws.{basis-in}
 
 module _ {A : Type 0} (o : Ops A) where
   -- a turn reads two knots
@@ -31,3 +32,7 @@ module _ {A : Type 0} (o : Ops A) where
   pub derivatives-window : (u : List A) (i : ℕ) (t : A) (nd : ℕ) → 3 ≤ i → derivativesOf o (window o u i) 2 t nd ≡ derivativesOf o u i t nd
   unfolding derivativesOf
   derivatives-window u i t nd h = rw (triangle-window u i t h)
+
+  -- The same for the definition with the test of the span.
+  pub basis-window : (u : List A) (i : ℕ) (t : A) (nd : ℕ) → 3 ≤ i → i ≤ 65 → derivativesOf o (window o u i) 2 t nd ≡ basisOf o u i t nd
+  basis-window u i t nd h g = derivatives-window u i t nd h ∙ basis-in o u i t nd h g

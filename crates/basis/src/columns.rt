@@ -44,7 +44,7 @@ pub(crate) fn end_j(r: usize, k: usize) -> usize
     4 - r
 }
 
-// How many of nd orders are not zero: 3 at most.
+// The highest order that is worked out where nd is asked for: those above 3 are zero.
 pub(crate) fn orders_of(nd: usize) -> usize
     ensures { λ q. ⌜ q ≡ min nd 3 ⌝ }
 {

@@ -1,4 +1,4 @@
-// A2.3 on values with partials. The knots are the six that a span reads, so that no longer list is copied.
+// A2.3 on values with partials. The knots are the six that a span reads: a whole list of them would be slow to copy.
 ghost use mathlib.Core.Path.{_≡_};
 ghost use Prim.Native.Nat.{_≤_};
 ghost use Rattle.partials.specs.Dual.{dual};

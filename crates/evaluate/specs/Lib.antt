@@ -1,0 +1,3 @@
+-- A point of a curve, and its derivatives.
+pub mod Point
+pub mod Straight

@@ -1,0 +1,11 @@
+-- The laws of searching, of sorted knots, of the rules, of the uniform knots and of the span.
+pub mod Tests
+pub mod Searching
+pub mod Sorted
+pub mod Repeats
+pub mod Accepted
+pub mod Spans
+pub mod Filling
+pub mod Refused
+pub mod Uniforms
+pub mod LastRows

@@ -1,0 +1,60 @@
+-- `knots::first_unlike` meets its contract: each knot passed equals knot j.
+use borrow.Author.Needs.{needs}
+use Prim.Native.Nat.{_-_}
+use Rattle.knots.specs.Rules.{unlike}
+use Rattle.knots.proofs.Searching.{Passed, passed, onward, found, ended}
+use Rattle.knots.proofs.first_unlike.Statement.{statement}
+use Rattle.knots.proofs.first_unlike.Tie as tie
+
+abbrev Inv-loop : tie.InvT-loop
+Inv-loop knots lo hi j i₀ i = Passed (unlike knots j) lo hi i
+
+abbrev μ-loop : tie.MeasureT-loop
+μ-loop knots lo hi j i₀ i = hi - i
+
+loop-holds : tie.Need-loop-holds Inv-loop μ-loop
+loop-holds c = passed (search needs)
+
+mul-if1 : tie.Need-mul-if1 Inv-loop μ-loop
+mul-if1 c = search needs
+
+shared-slice-read-if1 : tie.Need-shared-slice-read-if1 Inv-loop μ-loop
+shared-slice-read-if1 c = search needs
+
+mul-if1-2 : tie.Need-mul-if1-2 Inv-loop μ-loop
+mul-if1-2 c = search needs
+
+shared-slice-read-if1-2 : tie.Need-shared-slice-read-if1-2 Inv-loop μ-loop
+shared-slice-read-if1-2 c = search needs
+
+returns : tie.Need-returns Inv-loop μ-loop
+returns c = found (c .before .before .before .before .loop .inv) (search needs) (c .if1 .taken)
+
+add-i : tie.Need-add-i Inv-loop μ-loop
+add-i c = search needs
+
+loop-less : tie.Need-loop-less Inv-loop μ-loop
+loop-less c = search needs
+
+loop-again : tie.Need-loop-again Inv-loop μ-loop
+loop-again c = onward (c .before .before .before .before .loop .inv) (search needs) (c .if1 .left)
+
+returns-2 : tie.Need-returns-2 Inv-loop μ-loop
+returns-2 c = ended (c .before .loop .inv) (search needs)
+
+pub first-unlike-spec : {M : Type 1} → statement M
+first-unlike-spec =
+    tie.close
+    (tie.spec
+    Inv-loop
+    μ-loop
+    loop-holds
+    mul-if1
+    shared-slice-read-if1
+    mul-if1-2
+    shared-slice-read-if1-2
+    returns
+    add-i
+    loop-less
+    loop-again
+    returns-2)

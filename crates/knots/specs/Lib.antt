@@ -1,0 +1,7 @@
+-- The knot rules, the uniform knots and the span.
+pub mod Search
+pub mod Rules
+pub mod Repeat
+pub mod Uniform
+pub mod Span
+pub mod Halving

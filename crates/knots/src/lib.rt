@@ -1,0 +1,236 @@
+// The knot rules, the uniform knots and the span of a parameter.
+ghost use mathlib.Core.Path.{_≡_};
+ghost use mathlib.Core.Bool.{true, false};
+ghost use mathlib.Core.List.{[]};
+ghost use Prim.Native.Nat.{_+_, _≤_, _<_};
+ghost use lib.ListN.{length};
+ghost use Rattle.meaning.specs.Refusals.{firstOf};
+ghost use Rattle.knots.specs.Search.{seek};
+ghost use Rattle.knots.specs.Rules.{unfit, someUnfit, unlike, knotRules};
+ghost use Rattle.knots.specs.Repeat.{repeats};
+ghost use Rattle.knots.specs.Uniform.{uniformAt, uniformOf};
+ghost use Rattle.knots.specs.Halving.{narrow, halvedOf};
+
+// Why a spline is refused: the number of the first rule that applies, or 0.
+pub struct Refusal {
+    pub number: u64,
+}
+
+// The rules on the number of handles alone: those of the table where no knots are given.
+fn refused_handles(handles: usize, fit: bool) -> u64
+    ensures { λ r. ⌜ r ≡ firstOf (knotRules handles fit false []) ⌝ }
+{
+    if handles < 2 {
+        return 2;
+    }
+    if fit {
+        if handles > 64 {
+            return 4;
+        }
+        return 0;
+    }
+    if handles < 4 {
+        return 3;
+    }
+    if handles > 66 {
+        return 4;
+    }
+    0
+}
+
+// Whether knot i is not finite or less than the one before.
+fn is_unfit(knots: &[f64], i: usize) -> bool
+    requires { ⌜ i < length (now knots) ⌝ }
+    ensures { λ r. ⌜ r ≡ unfit (now (knots .entry)) i ⌝ }
+{
+    if !number::is_finite(knots[i]) {
+        return true;
+    }
+    if i == 0 {
+        return false;
+    }
+    knots[i] < knots[i - 1]
+}
+
+// The first knot that is not finite or less than the one before, or the number of knots.
+fn first_unfit(knots: &[f64]) -> usize
+    ensures { λ r. ⌜ r ≡ seek 0 (length (now (knots .entry))) (unfit (now (knots .entry))) ⌝ }
+{
+    let end = knots.len();
+    for i in 0..end {
+        if is_unfit(knots, i) {
+            return i;
+        }
+    }
+    end
+}
+
+// The first knot from lo on, below hi, that is not equal to knot j, or hi.
+fn first_unlike(knots: &[f64], lo: usize, hi: usize, j: usize) -> usize
+    requires { ⌜ lo ≤ hi ⌝ ∗ ⌜ hi ≤ length (now knots) ⌝ ∗ ⌜ j < length (now knots) ⌝ }
+    ensures { λ r. ⌜ r ≡ seek lo hi (unlike (now (knots .entry)) j) ⌝ }
+{
+    for i in lo..hi {
+        if knots[i] != knots[j] {
+            return i;
+        }
+    }
+    hi
+}
+
+// The first knot from 1 on, below n, that equals the third knot after it, or n.
+fn first_repeat(knots: &[f64], n: usize) -> usize
+    requires { ⌜ 1 ≤ n ⌝ ∗ ⌜ length (now knots) ≡ n + 4 ⌝ }
+    ensures { λ r. ⌜ r ≡ seek 1 n (repeats (now (knots .entry))) ⌝ }
+{
+    for j in 1..n {
+        if knots[j] == knots[j + 3] {
+            return j;
+        }
+    }
+    n
+}
+
+// The rules on the ends and on repeats, for n + 4 finite knots that do not fall.
+fn refused_ends(n: usize, knots: &[f64]) -> u64
+    requires { ⌜ (4 ≤ n) × (n ≤ 66) ⌝ ∗ ⌜ length (now knots) ≡ n + 4 ⌝ ∗ ⌜ someUnfit (now knots) ≡ false ⌝ }
+    ensures { λ r. ⌜ r ≡ firstOf (knotRules n false true (now (knots .entry))) ⌝ }
+{
+    let end = n + 4;
+    let last = n + 3;
+    if first_unlike(knots, 0, 4, 0) < 4 {
+        return 8;
+    }
+    if first_unlike(knots, n, end, last) < end {
+        return 8;
+    }
+    if knots[0] >= knots[last] {
+        return 9;
+    }
+    if first_repeat(knots, n) < n {
+        return 10;
+    }
+    0
+}
+
+// The rules on a list of knots for n control points.
+fn refused_list(n: usize, knots: &[f64]) -> u64
+    requires { ⌜ (4 ≤ n) × (n ≤ 66) ⌝ }
+    ensures { λ r. ⌜ r ≡ firstOf (knotRules n false true (now (knots .entry))) ⌝ }
+{
+    if knots.len() != n + 4 {
+        return 6;
+    }
+    if first_unfit(knots) < knots.len() {
+        return 7;
+    }
+    refused_ends(n, knots)
+}
+
+// Why a spline of so many handles, with these knots where any are given, is refused by the rules 2 to 10.
+// Corresponds to 000 check.
+pub fn check(handles: usize, fit: bool, given: bool, knots: &[f64]) -> Refusal
+    ensures { λ r. ⌜ r .number ≡ firstOf (knotRules handles fit given (now (knots .entry))) ⌝ }
+{
+    let by_handles = refused_handles(handles, fit);
+    if by_handles != 0 {
+        return Refusal { number: by_handles };
+    }
+    if !given {
+        return Refusal { number: 0 };
+    }
+    if fit {
+        return Refusal { number: 5 };
+    }
+    let by_list = refused_list(handles, knots);
+    Refusal { number: by_list }
+}
+
+// Knot j of the uniform knots for n control points.
+fn uniform_at(n: usize, j: usize) -> f64
+    requires { ⌜ (4 ≤ n) × (n ≤ 66) ⌝ }
+    ensures { λ r. ⌜ r ≡ uniformAt n j ⌝ }
+{
+    if j < 4 {
+        return 0.0;
+    }
+    if j < n {
+        let i = j - 3;
+        let spans = n - 3;
+        return i as f64 / spans as f64;
+    }
+    if j < n + 4 {
+        return 1.0;
+    }
+    0.0
+}
+
+// The uniform knots for n control points, all +0.0 where no curve has so many.
+// Corresponds to 000 Curve::new.
+pub fn uniform(n: usize) -> [f64; 70]
+    ensures { λ r. ⌜ r ≡ uniformOf n ⌝ }
+{
+    let mut u = [0.0; 70];
+    if n < 4 {
+        return u;
+    }
+    if n > 66 {
+        return u;
+    }
+    for j in 0..70 {
+        u[j] = uniform_at(n, j);
+    }
+    u
+}
+
+// The two ends of a search among the knots.
+struct Ends {
+    lo: usize,
+    hi: usize,
+}
+
+// The half in which the span of t lies.
+fn narrowed(u: &[f64; 70], t: f64, e: Ends) -> Ends
+    requires { ⌜ e .lo + 1 < e .hi ⌝ ∗ ⌜ e .hi ≤ 66 ⌝ }
+    ensures { λ r. ⌜ r ≡ narrow (now (u .entry)) t e ⌝ ∗ ⌜ e .lo ≤ r .lo ⌝ ∗ ⌜ r .lo < r .hi ⌝ ∗ ⌜ r .hi ≤ e .hi ⌝ }
+{
+    let lo = e.lo;
+    let hi = e.hi;
+    let mid = (lo + hi) / 2;
+    if t < u[mid] {
+        return Ends { lo, hi: mid };
+    }
+    Ends { lo: mid, hi }
+}
+
+// The span by halving, for n control points.
+fn halved(u: &[f64; 70], n: usize, t: f64) -> usize
+    requires { ⌜ (4 ≤ n) × (n ≤ 66) ⌝ }
+    ensures { λ r. ⌜ r ≡ halvedOf (now (u .entry)) n t ⌝ ∗ ⌜ 3 ≤ r ⌝ ∗ ⌜ r < n ⌝ }
+{
+    if t >= u[n] {
+        return n - 1;
+    }
+    if t <= u[3] {
+        return 3;
+    }
+    let mut e = Ends { lo: 3, hi: n };
+    while e.hi - e.lo > 1 {
+        e = narrowed(u, t, e);
+    }
+    e.lo
+}
+
+// The span of t among the knots of n control points: for knots that do not fall, the i with knot i ≤ t < knot i+1, or the end's.
+// Corresponds to 000 Curve::span.
+pub fn span(u: &[f64; 70], n: usize, t: f64) -> usize
+    ensures { λ r. ⌜ r ≡ halvedOf (now (u .entry)) n t ⌝ ∗ ⌜ 3 ≤ r ⌝ ∗ ⌜ r ≤ 65 ⌝ ∗ ⌜ (4 ≤ n → r < n) ⌝ }
+{
+    if n < 4 {
+        return 3;
+    }
+    if n > 66 {
+        return 3;
+    }
+    halved(u, n, t)
+}

@@ -87,6 +87,30 @@ uint64_t threshdune_plane_partials_dot(const double *a, size_t a_len, const uint
 uint64_t threshdune_plane_partials_norm(const double *a, size_t a_len, const uint64_t *a_counts, size_t a_counts_len,
                                         double *out, size_t out_len, uint64_t *count);
 
+/* ---- curves
+ *
+ * A curve crosses as its control points, x and y in turn, and its knots, of which there are four more than control points. Each
+ * function checks both again, whoever made them: refusals 1, 2 to 4, 6 to 11 in document 01's order, before those it names. The
+ * refusal is the result, 0 for none; a refused call writes nothing.
+ */
+
+/* The curve of these control points, over the knots where `given` is not 0, else over uniform ones. Writes the control points
+ * into `control` and the knots into `knots_out`: 14 where either is too short; 15. */
+uint64_t threshdune_build_control(const double *coords, size_t coords_len, uint64_t given, const double *knots, size_t knots_len,
+                                  double *control, size_t control_len, double *knots_out, size_t knots_out_len);
+/* The point at t and its derivatives up to the order: 2 * (order + 1) numbers, x and y in turn. 12 for t, 13 above order 4, 14, 15. */
+uint64_t threshdune_evaluate(const double *coords, size_t coords_len, const double *knots, size_t knots_len, double t,
+                             uint64_t order, double *out, size_t out_len);
+/* The point at t and the unit tangent: four numbers. 12, 14, 15. */
+uint64_t threshdune_point_tangent(const double *coords, size_t coords_len, const double *knots, size_t knots_len, double t,
+                                  double *out, size_t out_len);
+/* The length of the control polygon: one number. 14, 15. */
+uint64_t threshdune_length(const double *coords, size_t coords_len, const double *knots, size_t knots_len, double *out,
+                           size_t out_len);
+/* per_span parameters from the start of each rising knot pair on, then the domain's end; count says how many. 13 above 16, 14, 15. */
+uint64_t threshdune_samples(const double *coords, size_t coords_len, const double *knots, size_t knots_len, uint64_t per_span,
+                            double *out, size_t out_len, uint64_t *count);
+
 #ifdef __cplusplus
 }
 #endif

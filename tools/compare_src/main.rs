@@ -5,6 +5,8 @@
 //! The seed decides every input, so a run can be had again; the counts are divided by SHARE.
 //! A later layer adds a file with its `run` and a line to `SECTIONS`.
 
+mod curves;
+mod layouts;
 mod lent;
 mod numbers;
 mod ours;
@@ -13,6 +15,7 @@ mod plane;
 mod plane_partials;
 mod random;
 mod roots;
+mod table;
 mod tally;
 
 use random::Random;
@@ -51,6 +54,11 @@ const SECTIONS: &[Section] = &[
         name: "plane with partials",
         rounds: 1_000_000,
         run: plane_partials::run,
+    },
+    Section {
+        name: "curves",
+        rounds: 1_000_000,
+        run: curves::run,
     },
 ];
 

@@ -143,3 +143,55 @@ unsafe extern "C" {
         count: *mut u64,
     ) -> u64;
 }
+
+// Curves.
+unsafe extern "C" {
+    pub fn threshdune_build_control(
+        coords: *const f64,
+        coords_len: usize,
+        given: u64,
+        knots: *const f64,
+        knots_len: usize,
+        control: *mut f64,
+        control_len: usize,
+        knots_out: *mut f64,
+        knots_out_len: usize,
+    ) -> u64;
+    pub fn threshdune_evaluate(
+        coords: *const f64,
+        coords_len: usize,
+        knots: *const f64,
+        knots_len: usize,
+        t: f64,
+        order: u64,
+        out: *mut f64,
+        out_len: usize,
+    ) -> u64;
+    pub fn threshdune_point_tangent(
+        coords: *const f64,
+        coords_len: usize,
+        knots: *const f64,
+        knots_len: usize,
+        t: f64,
+        out: *mut f64,
+        out_len: usize,
+    ) -> u64;
+    pub fn threshdune_length(
+        coords: *const f64,
+        coords_len: usize,
+        knots: *const f64,
+        knots_len: usize,
+        out: *mut f64,
+        out_len: usize,
+    ) -> u64;
+    pub fn threshdune_samples(
+        coords: *const f64,
+        coords_len: usize,
+        knots: *const f64,
+        knots_len: usize,
+        per_span: u64,
+        out: *mut f64,
+        out_len: usize,
+        count: *mut u64,
+    ) -> u64;
+}

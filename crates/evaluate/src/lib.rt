@@ -8,7 +8,6 @@ ghost use Rattle.knots.specs.Halving.{halvedOf};
 ghost use Rattle.plane.specs.View.{view};
 ghost use Rattle.evaluate.specs.Point.{weighted, combined, placed, insideOf, beyondOf, ordersOf};
 ghost use Rattle.evaluate.specs.Straight.{straightOf};
-
 use plane::P2;
 
 // One coordinate of a point: the four control points of span i, each times its basis value, summed from +0.0.

@@ -1,7 +1,8 @@
 // The library for C and Rust to link: the same proved functions, over numbers and slices. include/threshdune.h declares them.
 ghost use mathlib.Core.Path.{_≡_};
-ghost use mathlib.Core.List.{_∷_};
-ghost use Prim.Native.Nat.{_+_, _≤_};
+ghost use mathlib.Core.Bool.{true};
+ghost use mathlib.Core.List.{[], _∷_, _++_};
+ghost use Prim.Native.Nat.{_+_, _/_, _≤_};
 ghost use lib.ListN.{length, getD};
 ghost use lib.Seq.{paste};
 ghost use lib.Ieee.Scale.{finite};
@@ -11,7 +12,13 @@ ghost use Rattle.meaning.specs.Scalar.{plain};
 ghost use Rattle.partials.specs.Dual.{dual, varDv, addDv, subDv, mulDv, divDv, negDv, rootDv, overshootDv, fineDv};
 ghost use Rattle.plane.specs.Vector.{addV, subV, scaleV, dotV, normV, unitV};
 ghost use Rattle.plane.specs.View.{view, viewD};
-ghost use Rattle.exports.specs.Crossing.{entryOf, readDv, readV, Answered, AnsweredV, AnsweredP};
+ghost use Rattle.curve.specs.Record.{shapeOf};
+ghost use Rattle.curve.specs.Answer.{Answer};
+ghost use Rattle.curve.specs.Build.{storedKnots, knotsBuilt, controlCurve, sliceRules, intoRules, AnswerBuild};
+ghost use Rattle.curve.specs.Evaluate.{pointOrders, numbersFor, pointRules, tangentNumbers, tangentRules};
+ghost use Rattle.curve.specs.Length.{lengthOf, lengthRules};
+ghost use Rattle.curve.specs.Samples.{samplesOf, sampleRules, AnswerCounted};
+ghost use Rattle.exports.specs.Crossing.{isGiven, entryOf, readDv, readV, Answered, AnsweredV, AnsweredP};
 use partials::Dv;
 use plane::P2;
 use plane::P2d;
@@ -446,4 +453,74 @@ pub extern "C" fn threshdune_plane_partials_norm(
 {
     let x = read_vector(a, a_counts);
     answer(x.norm(), out, count)
+}
+
+// ---- curves
+
+// The curve of these control points, over the knots where given is not 0, else over uniform ones.
+#[no_mangle]
+pub extern "C" fn threshdune_build_control(
+    coords: &[f64],
+    given: u64,
+    knots: &[f64],
+    control: &mut [f64],
+    knots_out: &mut [f64],
+) -> u64
+    ensures { λ r. ⌜ AnswerBuild (sliceRules (now (coords .entry)) (isGiven given) (now (knots .entry)) ++ intoRules (now (coords .entry)) (knotsBuilt (now (coords .entry))) (storedKnots (length (now (coords .entry)) / 2) (isGiven given) (now (knots .entry))) (now (control .entry)) (now («knots_out» .entry))) (now (coords .entry)) (storedKnots (length (now (coords .entry)) / 2) (isGiven given) (now (knots .entry))) (knotsBuilt (now (coords .entry))) (now (control .entry)) (now («knots_out» .entry)) r (now (control .exit)) (now («knots_out» .exit)) ⌝ }
+{
+    let r = curve::build_control_slices(coords, given != 0, knots, control, knots_out);
+    r.number
+}
+
+// The point at t and its derivatives up to the order.
+#[no_mangle]
+pub extern "C" fn threshdune_evaluate(
+    coords: &[f64],
+    knots: &[f64],
+    t: f64,
+    order: u64,
+    out: &mut [f64],
+) -> u64
+    ensures { λ r. ⌜ Answer (sliceRules (now (coords .entry)) true (now (knots .entry)) ++ pointRules (shapeOf (controlCurve (now (coords .entry)) true (now (knots .entry)))) t order (now (out .entry))) (pointOrders (shapeOf (controlCurve (now (coords .entry)) true (now (knots .entry)))) t order) (numbersFor order) (now (out .entry)) r (now (out .exit)) ⌝ }
+{
+    let r = curve::evaluate_slices(coords, knots, t, order as usize, out);
+    r.number
+}
+
+// The point at t and the unit tangent.
+#[no_mangle]
+pub extern "C" fn threshdune_point_tangent(
+    coords: &[f64],
+    knots: &[f64],
+    t: f64,
+    out: &mut [f64],
+) -> u64
+    ensures { λ r. ⌜ Answer (sliceRules (now (coords .entry)) true (now (knots .entry)) ++ tangentRules (shapeOf (controlCurve (now (coords .entry)) true (now (knots .entry)))) t (now (out .entry))) (tangentNumbers (shapeOf (controlCurve (now (coords .entry)) true (now (knots .entry)))) t) 4 (now (out .entry)) r (now (out .exit)) ⌝ }
+{
+    let r = curve::point_tangent_slices(coords, knots, t, out);
+    r.number
+}
+
+// The length of the control polygon.
+#[no_mangle]
+pub extern "C" fn threshdune_length(coords: &[f64], knots: &[f64], out: &mut [f64]) -> u64
+    ensures { λ r. ⌜ Answer (sliceRules (now (coords .entry)) true (now (knots .entry)) ++ lengthRules (shapeOf (controlCurve (now (coords .entry)) true (now (knots .entry)))) (now (out .entry))) (lengthOf plain (shapeOf (controlCurve (now (coords .entry)) true (now (knots .entry)))) ∷ []) 1 (now (out .entry)) r (now (out .exit)) ⌝ }
+{
+    let r = curve::length_slices(coords, knots, out);
+    r.number
+}
+
+// per_span parameters from the start of each rising knot pair on, then the domain's end.
+#[no_mangle]
+pub extern "C" fn threshdune_samples(
+    coords: &[f64],
+    knots: &[f64],
+    per_span: u64,
+    out: &mut [f64],
+    count: &mut u64,
+) -> u64
+    ensures { λ r. ⌜ AnswerCounted (sliceRules (now (coords .entry)) true (now (knots .entry)) ++ sampleRules (shapeOf (controlCurve (now (coords .entry)) true (now (knots .entry)))) «per_span» (now (out .entry))) (samplesOf (shapeOf (controlCurve (now (coords .entry)) true (now (knots .entry)))) «per_span») (now (out .entry)) (now (count .entry)) r (now (out .exit)) (now (count .exit)) ⌝ }
+{
+    let r = curve::samples_slices(coords, knots, per_span as usize, out, count);
+    r.number
 }

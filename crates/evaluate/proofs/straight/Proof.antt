@@ -1,32 +1,27 @@
+-- `evaluate::straight` meets its contract.
+use Rattle.plane.specs.View.{view}
+use Rattle.evaluate.proofs.Rooms.{straight-point, straight-more}
 use borrow.Author.Needs.{needs}
 use Rattle.evaluate.proofs.straight.Statement.{statement}
 use Rattle.evaluate.proofs.straight.Tie as tie
-use Rattle.evaluate.proofs.straight.Reads as reads
-use Rattle.evaluate.proofs.straight.Lts as lts
 
--- src/lib.rt:71:5
 array-write-out : tie.Need-array-write-out
 array-write-out c = search needs
 
--- src/lib.rt:72:5
 array-write-out-2 : tie.Need-array-write-out-2
 array-write-out-2 c = search needs
 
--- src/lib.rt:74:9
 array-write-out-3 : tie.Need-array-write-out-3
 array-write-out-3 c = search needs
 
--- src/lib.rt:75:9
 array-write-out-4 : tie.Need-array-write-out-4
 array-write-out-4 c = search needs
 
--- src/lib.rt:66:1
 returns : tie.Need-returns
-returns c = ?
+returns c = straight-more _ _ _ (c .if1 .taken) (c .before .pre)
 
--- src/lib.rt:66:1
 returns-2 : tie.Need-returns-2
-returns-2 c = ?
+returns-2 c = straight-point _ _ _ (c .if1 .left)
 
 pub straight-spec : {M : Type 1} → statement M
 straight-spec =

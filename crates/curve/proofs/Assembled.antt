@@ -1,0 +1,111 @@
+-- The rules for control points and knots in slices, from the tests that the build makes one after the other. Assumes nothing.
+use mathlib.Core.Path.{_≡_, refl, sym, ap, _∙_}
+use mathlib.Core.Bool.{Bool, true, false, not, cond}
+use mathlib.Core.List.{List, [], _∷_, _++_}
+use Prim.Native.Nat.{ℕ, zero, suc, _+_, _-_, _/_, _%_, _≤_}
+use native.Mathlib.Nat.{suc-ne-zero}
+use native.Mathlib.Omega.{arith}
+use borrow.Author.Tests.{eq-eqb, ne-eqb}
+use lib.ListN.{length, take, drop, replicate, length-replicate}
+use lib.Seq.{take-all, take-at, length-take-le}
+use lib.Dec.{T, eqb}
+use lib.Ieee.{Float}
+use Rattle.meaning.specs.Scalar.{zero64}
+use Rattle.meaning.specs.Refusals.{Row, row, firstOf}
+use Rattle.knots.specs.Rules.{knotRules}
+use Rattle.knots.proofs.Accepted.{Accepted, accepted}
+use Rattle.knots.proofs.Refused.{row-passed, handles-passed}
+use Rattle.curve.specs.declared.Curve.{Curve}
+use Rattle.curve.specs.Record.{someWild, emptyCurve}
+use Rattle.curve.specs.Build.{storedKnots, sliceRules, storedRules, controlRules, builtBy}
+use Rattle.curve.proofs.Rows.{numbered, row-applies, row-passes, second-decides, first-decides}
+use Rattle.curve.proofs.Trusted.{numbered-knots}
+use Rattle.curve.proofs.Doors.{put-all}
+
+-- the number of control points is in range, whether knots are given or not
+pub room-of : (n : ℕ) (given : Bool) (ks : List Float) → firstOf (knotRules n false given ks) ≡ 0 → (4 ≤ n) × (n ≤ 66)
+unfolding firstOf knotRules
+room-of n given ks h =
+    let r2 = row-passed _ 1 _ h in
+    let r3 = row-passed _ 2 _ (r2 .1) in
+    let r4 = row-passed _ 3 _ (r3 .1) in
+    handles-passed n (r2 .0) (r3 .0) (r4 .0)
+
+-- what is built where a rule applies, and where none does
+pub built-refused : (rules : List Row) (c : Curve) {m : ℕ} → m ≡ firstOf rules → (m ≡ 0 → ⊥) → emptyCurve ≡ builtBy rules c
+built-refused rules c e h = rw (ne-eqb (firstOf rules) 0 (λ z. h (e ∙ z)))
+
+pub built-made : (rules : List Row) (c : Curve) → 0 ≡ firstOf rules → c ≡ builtBy rules c
+built-made rules c e = rw (eq-eqb (firstOf rules) 0 (sym e))
+
+module _ (coords : List Float) (given : Bool) (ks : List Float) where
+  pub numbered-slices : T (numbered (sliceRules coords given ks))
+  unfolding sliceRules knotRules
+  numbered-slices = tt
+
+  pub odd-slices : (length coords % 2 ≡ 0 → ⊥) → 1 ≡ firstOf (sliceRules coords given ks)
+  unfolding sliceRules
+  odd-slices h = sym (row-applies _ _ (ap not (ne-eqb (length coords % 2) 0 h)))
+
+  module _ (even : length coords % 2 ≡ 0) where
+    even-slices : firstOf (sliceRules coords given ks) ≡ firstOf (knotRules (length coords / 2) false given ks ++ (row 11 (someWild coords (length coords)) ∷ []))
+    unfolding sliceRules
+    even-slices = row-passes _ _ (ap not (eq-eqb (length coords % 2) 0 even))
+
+    pub knots-refused-slices : {m : ℕ} → m ≡ firstOf (knotRules (length coords / 2) false given ks) → (m ≡ 0 → ⊥) → m ≡ firstOf (sliceRules coords given ks)
+    knots-refused-slices e h = e ∙ sym (even-slices ∙ first-decides _ _ (λ z. h (e ∙ z)))
+
+    module _ (passed : firstOf (knotRules (length coords / 2) false given ks) ≡ 0) where
+      left : firstOf (sliceRules coords given ks) ≡ firstOf (row 11 (someWild coords (length coords)) ∷ [])
+      left = even-slices ∙ second-decides _ _ (numbered-knots (length coords / 2) false given ks) passed
+
+      pub wild-slices : someWild coords (length coords) ≡ true → 11 ≡ firstOf (sliceRules coords given ks)
+      wild-slices h = sym (left ∙ row-applies _ _ h)
+
+      pub tame-slices : someWild coords (length coords) ≡ false → 0 ≡ firstOf (sliceRules coords given ks)
+      unfolding firstOf
+      tame-slices h = sym (left ∙ row-passes (row 11 (someWild coords (length coords))) [] h)
+
+  -- what passes the rules of slices passes those of its knots
+  pub slices-passed : firstOf (sliceRules coords given ks) ≡ 0 → firstOf (knotRules (length coords / 2) false given ks) ≡ 0
+  slices-passed h = by (length coords % 2) refl (firstOf (knotRules (length coords / 2) false given ks)) refl
+    where
+      by : (p : ℕ) → length coords % 2 ≡ p → (m : ℕ) → m ≡ firstOf (knotRules (length coords / 2) false given ks) → firstOf (knotRules (length coords / 2) false given ks) ≡ 0
+      by zero p zero e = sym e
+      by zero p (suc m) e = absurd (suc-ne-zero m (knots-refused-slices p e (suc-ne-zero m) ∙ h))
+      by (suc q) p m e = absurd (suc-ne-zero 0 (odd-slices (λ z. suc-ne-zero q (sym p ∙ z)) ∙ h))
+
+-- ---- and the stored knots
+
+module _ (coords : List Float) (given : Bool) (ks : List Float) where
+  pub control-refused : {m : ℕ} → m ≡ firstOf (sliceRules coords given ks) → (m ≡ 0 → ⊥) → m ≡ firstOf (controlRules coords given ks)
+  unfolding controlRules
+  control-refused e h = e ∙ sym (first-decides _ _ (λ z. h (e ∙ z)))
+
+  module _ (passed : firstOf (sliceRules coords given ks) ≡ 0) where
+    knots-left : firstOf (controlRules coords given ks) ≡ firstOf (storedRules coords given ks)
+    unfolding controlRules
+    knots-left = second-decides _ _ (numbered-slices coords given ks) passed
+
+    pub control-wild : someWild (storedKnots (length coords / 2) given ks) 70 ≡ true → 15 ≡ firstOf (controlRules coords given ks)
+    control-wild h = sym (knots-left ∙ row-applies (row 15 (someWild (storedKnots (length coords / 2) given ks) 70)) [] h)
+
+    pub control-tame : someWild (storedKnots (length coords / 2) given ks) 70 ≡ false → 0 ≡ firstOf (controlRules coords given ks)
+    unfolding firstOf
+    control-tame h = sym (knots-left ∙ row-passes (row 15 (someWild (storedKnots (length coords / 2) given ks) 70)) [] h)
+
+-- ---- knots in slices that the rules let through are accepted in their room, too
+
+pub slices-trusted : (coords ks : List Float) → firstOf (sliceRules coords true ks) ≡ 0
+    → Accepted (take (length coords / 2 + 4) (storedKnots (length coords / 2) true ks)) (length coords / 2)
+slices-trusted coords ks h =
+    let n = length coords / 2 in
+    let a = accepted ks n (slices-passed coords true ks h) in
+    let l = a .sound .long in
+    let zeros = replicate 70 zero64 in
+    let z : length zeros ≡ 70 = length-replicate 70 zero64 in
+    let front : take (n + 4) (storedKnots n true ks) ≡ ks =
+    ap (take (n + 4)) (put-all ks (n + 4) zeros (omega arith) (omega (arith, a .room)))
+    ∙ take-at (take (n + 4) ks) (drop (0 + (n + 4)) zeros) (n + 4) (length-take-le (n + 4) ks (omega arith))
+    ∙ take-all (n + 4) ks (omega arith) in
+    rw front a

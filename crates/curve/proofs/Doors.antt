@@ -1,0 +1,88 @@
+-- What a door answers, from the tests that it makes one after the other. Assumes nothing.
+use mathlib.Core.Path.{_≡_, refl, sym, ap, _∙_, subst}
+use mathlib.Core.Bool.{Bool, true, false, not, cond}
+use mathlib.Core.List.{List, [], _∷_, _++_}
+use Prim.Native.Nat.{ℕ, zero, suc, _-_, _≤_}
+use native.Mathlib.Nat.{suc-ne-zero}
+use native.Mathlib.Omega.{arith}
+use borrow.Author.Tests.{le-leb, ne-eqb}
+use lib.Dec.{T, eqb}
+use lib.ListN.{length}
+use lib.Seq.{paste}
+use lib.Ieee.{Float}
+use Rattle.buffer.specs.Pasted.{pasted}
+use Rattle.meaning.specs.Refusals.{Row, row, firstOf}
+use Rattle.curve.specs.declared.Curve.{Curve}
+use Rattle.curve.specs.Answer.{Answer}
+use Rattle.curve.specs.Samples.{AnswerCounted}
+use Rattle.curve.specs.Build.{intoRules, AnswerBuild}
+use Rattle.curve.proofs.Rows.{numbered, row-applies, row-passes, second-decides, first-decides}
+
+module _ {numbers : List Float} {k : ℕ} {out : List Float} where
+  -- a row applies: its number is answered, and nothing is written
+  pub stop : (n : ℕ) {b : Bool} {rs : List Row} → b ≡ true → Answer (row (suc n) b ∷ rs) numbers k out (suc n) out
+  stop n {b} {rs} h = let e = row-applies (row (suc n) b) rs h in record { refusal = sym e; written = rw (e, ne-eqb (suc n) 0 (suc-ne-zero n)) }
+
+  -- a row does not apply
+  pub pass : (n : ℕ) {b : Bool} {rs : List Row} {m : ℕ} {out′ : List Float} → b ≡ false → Answer rs numbers k out m out′ → Answer (row n b ∷ rs) numbers k out m out′
+  pass n {b} {rs} h a = let e = row-passes (row n b) rs h in record { refusal = rw e (a .refusal); written = rw e (a .written) }
+
+  -- no row is left
+  pub done : {out′ : List Float} → out′ ≡ paste out 0 numbers k → Answer [] numbers k out 0 out′
+  unfolding firstOf
+  done e = record { refusal = refl; written = e }
+
+  -- the curve's own rules come first
+  pub refused : (rules rs : List Row) {m : ℕ} → m ≡ firstOf rules → (m ≡ 0 → ⊥) → Answer (rules ++ rs) numbers k out m out
+  refused rules rs {m} e h =
+      let f : firstOf (rules ++ rs) ≡ m = first-decides rules rs (λ z. h (e ∙ z)) ∙ sym e in
+      record { refusal = sym f; written = rw (f, ne-eqb m 0 h) }
+
+  pub after : (rules : List Row) {rs : List Row} {m : ℕ} {out′ : List Float} → T (numbered rules) → firstOf rules ≡ 0 → Answer rs numbers k out m out′
+      → Answer (rules ++ rs) numbers k out m out′
+  after rules {rs} t z a =
+      let f : firstOf (rules ++ rs) ≡ firstOf rs = second-decides rules rs t z in record { refusal = a .refusal ∙ sym f; written = rw f (a .written) }
+
+-- numbers for which there is room are put in whole
+pub put-all : (numbers : List Float) (k : ℕ) (out : List Float) → k ≤ length numbers → k ≤ length out → pasted numbers k out 0 ≡ paste out 0 numbers k
+unfolding pasted
+put-all numbers k out g h = rw (le-leb k (length numbers) g, le-leb 0 (length out) (omega arith), le-leb k (length out - 0) (omega arith))
+
+-- a test that failed, and one that passed
+pub not-told : {a b t : Bool} → a ≡ b → not a ≡ t → not b ≡ t
+not-told e h = ap not (sym e) ∙ h
+
+-- the same with a count beside the slice
+module _ {numbers : List Float} {out : List Float} {n : ℕ} where
+  pub refused-counted : (rules rs : List Row) {m : ℕ} → m ≡ firstOf rules → (m ≡ 0 → ⊥) → AnswerCounted (rules ++ rs) numbers out n m out n
+  refused-counted rules rs {m} e h =
+      let f : firstOf (rules ++ rs) ≡ m = first-decides rules rs (λ z. h (e ∙ z)) ∙ sym e in
+      record { answer = refused rules rs e h; counted = rw (f, ne-eqb m 0 h) }
+
+  pub after-counted : (rules : List Row) {rs : List Row} {m : ℕ} {out′ : List Float} {n′ : ℕ} → T (numbered rules) → firstOf rules ≡ 0 → AnswerCounted rs numbers out n m out′ n′
+      → AnswerCounted (rules ++ rs) numbers out n m out′ n′
+  after-counted rules {rs} t z a = record { answer = after rules t z (a .answer); counted = rw (second-decides rules rs t z) (a .counted) }
+
+-- an answer of one curve is that of an equal one
+pub moved : (rules : Curve → List Row) (numbers : Curve → List Float) {c d : Curve} {k : ℕ} {out : List Float} {m : ℕ} {out′ : List Float} → c ≡ d
+    → Answer (rules c) (numbers c) k out m out′ → Answer (rules d) (numbers d) k out m out′
+moved rules numbers {c} {d} {k} {out} {m} {out′} e a = subst (λ (x : Curve). Answer (rules x) (numbers x) k out m out′) e a
+
+pub moved-counted : (rules : Curve → List Row) (numbers : Curve → List Float) {c d : Curve} {out : List Float} {n m : ℕ} {out′ : List Float} {n′ : ℕ} → c ≡ d
+    → AnswerCounted (rules c) (numbers c) out n m out′ n′ → AnswerCounted (rules d) (numbers d) out n m out′ n′
+moved-counted rules numbers {c} {d} {out} {n} {m} {out′} {n′} e a = subst (λ (x : Curve). AnswerCounted (rules x) (numbers x) out n m out′ n′) e a
+
+-- a build in two slices
+module _ {coords us : List Float} {k : ℕ} {control out : List Float} where
+  pub refused-build : (rules rs : List Row) {m : ℕ} → m ≡ firstOf rules → (m ≡ 0 → ⊥) → AnswerBuild (rules ++ rs) coords us k control out m control out
+  refused-build rules rs e h = record { points = refused rules rs e h; knots = refused rules rs e h }
+
+  pub after-build : (rules : List Row) {rs : List Row} {m : ℕ} {control′ out′ : List Float} → T (numbered rules) → firstOf rules ≡ 0
+      → AnswerBuild rs coords us k control out m control′ out′ → AnswerBuild (rules ++ rs) coords us k control out m control′ out′
+  after-build rules t z a = record { points = after rules t z (a .points); knots = after rules t z (a .knots) }
+
+pub moved-build : (coords : List Float) {c d : Curve} {control out : List Float} {m : ℕ} {control′ out′ : List Float} → c ≡ d
+    → AnswerBuild (intoRules coords (c .«knot_count») (c .knots) control out) coords (c .knots) (c .«knot_count») control out m control′ out′
+    → AnswerBuild (intoRules coords (d .«knot_count») (d .knots) control out) coords (d .knots) (d .«knot_count») control out m control′ out′
+moved-build coords {c} {d} {control} {out} {m} {control′} {out′} e a =
+    subst (λ (x : Curve). AnswerBuild (intoRules coords (x .«knot_count») (x .knots) control out) coords (x .knots) (x .«knot_count») control out m control′ out′) e a

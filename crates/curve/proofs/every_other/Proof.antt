@@ -1,0 +1,69 @@
+-- `curve::every_other` meets its contract: a turn copies one number.
+use mathlib.Core.Path.{refl}
+use Prim.Native.Nat.{_+_, _-_, _*_}
+use lib.ListN.{set}
+use Rattle.meaning.specs.Scalar.{plain}
+use Rattle.meaning.specs.Table.{at1}
+use Rattle.meaning.proofs.For.{At, first, next, last}
+use Rattle.curve.specs.Build.{everyOther}
+use borrow.Author.Needs.{needs}
+use Rattle.curve.proofs.every_other.Statement.{statement}
+use Rattle.curve.proofs.every_other.Tie as tie
+
+abbrev Inv-loop : tie.InvT-loop
+Inv-loop coords n off a₀ i₀ a i = At 0 n (λ j l. set l j (at1 plain coords (2 * j + off))) a₀ i a
+
+abbrev μ-loop : tie.MeasureT-loop
+μ-loop coords n off a₀ i₀ a i = n - i
+
+loop-holds : tie.Need-loop-holds Inv-loop μ-loop
+loop-holds c = first (search needs)
+
+mul-a : tie.Need-mul-a Inv-loop μ-loop
+mul-a c = search needs
+
+add-a : tie.Need-add-a Inv-loop μ-loop
+add-a c = search needs
+
+mul-a-2 : tie.Need-mul-a-2 Inv-loop μ-loop
+mul-a-2 c = search needs
+
+shared-slice-read-a : tie.Need-shared-slice-read-a Inv-loop μ-loop
+shared-slice-read-a c = search needs
+
+mul-a-3 : tie.Need-mul-a-3 Inv-loop μ-loop
+mul-a-3 c = search needs
+
+array-write-a : tie.Need-array-write-a Inv-loop μ-loop
+array-write-a c = search needs
+
+add-i : tie.Need-add-i Inv-loop μ-loop
+add-i c = search needs
+
+loop-less : tie.Need-loop-less Inv-loop μ-loop
+loop-less c = search needs
+
+loop-again : tie.Need-loop-again Inv-loop μ-loop
+loop-again c = next (c .before .before .loop .inv) (search needs) refl
+
+returns : tie.Need-returns Inv-loop μ-loop
+unfolding everyOther
+returns c = last (c .before .loop .inv) (search needs)
+
+pub every-other-spec : {M : Type 1} → statement M
+every-other-spec =
+    tie.close
+    (tie.spec
+    Inv-loop
+    μ-loop
+    loop-holds
+    mul-a
+    add-a
+    mul-a-2
+    shared-slice-read-a
+    mul-a-3
+    array-write-a
+    add-i
+    loop-less
+    loop-again
+    returns)

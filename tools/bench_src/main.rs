@@ -1,0 +1,23 @@
+//! Times the proved code against the original, case by case.
+//!
+//!     bench [CASE]
+//!
+//! A later layer adds a file and a line to `main`.
+
+mod curves;
+mod root;
+mod sides;
+
+use sides::Bench;
+
+fn main() {
+    let words: Vec<String> = std::env::args().skip(1).collect();
+    if words.len() > 1 {
+        eprintln!("usage: bench [CASE]");
+        std::process::exit(2);
+    }
+    let mut bench = Bench::of(words.into_iter().next());
+    root::time(&mut bench);
+    curves::time(&mut bench);
+    bench.finish();
+}

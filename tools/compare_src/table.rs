@@ -1,0 +1,104 @@
+//! Document 01's table of refusals, for curves made from control points: the first that applies is the
+//! answer. Each row is asked whether an earlier one applies or not, so that cases in which the order
+//! decides can be counted. The rows are written from the document, not from the original.
+
+use original::spline::check;
+
+/// The most control points.
+const MOST: usize = 66;
+
+/// An outcome is not finite.
+pub const NOT_FINITE: u64 = 15;
+
+#[derive(Clone, Copy, Default)]
+pub struct Table {
+    /// The first row that applies, 0 where none does.
+    pub first: u64,
+    /// Whether another row applies too.
+    pub several: bool,
+    last: u64,
+}
+
+impl Table {
+    /// The next row. Rows come in the document's order, which is that of their numbers.
+    pub fn row(mut self, number: u64, applies: bool) -> Self {
+        assert!(number > self.last, "row {number} after {}", self.last);
+        self.last = number;
+        if applies {
+            self.several = self.first != 0;
+            if self.first == 0 {
+                self.first = number;
+            }
+        }
+        self
+    }
+
+    /// The rows 1 to 11 for control points, over knots if there are any given.
+    pub fn of_curve(coords: &[f64], knots: Option<&[f64]>) -> Self {
+        let n = coords.len() / 2;
+        let counts = Table::default()
+            .row(1, coords.len() % 2 == 1)
+            .row(2, n < 2)
+            .row(3, n == 2 || n == 3)
+            .row(4, n > MOST);
+        let checked = match knots {
+            None => counts,
+            Some(knots) => counts
+                .row(6, knots.len() != n + 4)
+                .row(7, !rising(knots))
+                .row(8, !clamped(knots))
+                .row(9, !(knots.first() < knots.last()))
+                .row(10, crowded(knots, n)),
+        };
+        checked.row(11, !coords.iter().all(|x| x.is_finite()))
+    }
+}
+
+fn rising(knots: &[f64]) -> bool {
+    knots.iter().all(|k| k.is_finite()) && !knots.windows(2).any(|pair| pair[1] < pair[0])
+}
+
+fn clamped(knots: &[f64]) -> bool {
+    let equal = |four: &[f64]| four.iter().all(|k| *k == four[0]);
+    knots.len() >= 4 && equal(&knots[..4]) && equal(&knots[knots.len() - 4..])
+}
+
+/// Whether one of the indices 4 to n-1 has a knot that is in the whole list more than three times.
+fn crowded(knots: &[f64], n: usize) -> bool {
+    let often = |k: &f64| knots.iter().filter(|other| *other == k).count() > 3;
+    knots.iter().take(n).skip(4).any(often)
+}
+
+/// What the original's `check` says of control points, as the number of document 01 that its words stand for; 0 where it
+/// accepts. Nothing where it has nothing to say: of an odd length, and of more points than the port takes.
+pub fn their_check(coords: &[f64], knots: Option<&[f64]>) -> Option<u64> {
+    const WORDS: [(&str, u64); 7] = [
+        ("needs at least 2 points", 2),
+        ("needs at least 4 control points", 3),
+        ("knots, got", 6),
+        ("finite and non-decreasing", 7),
+        ("must be clamped", 8),
+        ("span no interval", 9),
+        ("repeats more than", 10),
+    ];
+    let n = coords.len() / 2;
+    if coords.len() % 2 == 1 || n > MOST {
+        return None;
+    }
+    let Err(words) = check(n, false, knots) else {
+        return Some(0);
+    };
+    match WORDS.iter().find(|(part, _)| words.contains(part)) {
+        Some((_, number)) => Some(*number),
+        None => panic!("the original's check has other words: {words}"),
+    }
+}
+
+/// Whether the two agree: the numbers that `check` knows, and those that the port adds.
+pub fn agrees_with_check(refusal: u64, theirs: Option<u64>) -> bool {
+    let Some(theirs) = theirs else {
+        return true;
+    };
+    let shared = matches!(refusal, 2 | 3 | 5..=10);
+    theirs == if shared { refusal } else { 0 }
+}

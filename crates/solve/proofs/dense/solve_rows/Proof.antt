@@ -1,0 +1,40 @@
+-- `solve::dense::solve_rows` meets its contract: the elimination, and back substitution on what it leaves.
+use Prim.Native.Nat.{_+_}
+use native.Mathlib.Omega.{arith}
+use mathlib.Core.Path.{_∙_}
+use Rattle.meaning.specs.Scalar.{plain}
+use Rattle.solve.specs.Elimination.{eliminated}
+use Rattle.solve.specs.Substitution.{solved, solvedOk}
+use Rattle.solve.proofs.Steps.{eliminated-shaped}
+use borrow.Author.Needs.{needs}
+use Rattle.solve.proofs.dense.solve_rows.Statement.{statement}
+use Rattle.solve.proofs.dense.solve_rows.Tie as tie
+
+add-s : tie.Need-add-s
+add-s c = search needs
+
+eliminate-requires : tie.Need-eliminate-requires
+eliminate-requires c κs = search needs
+
+substitute-requires : tie.Need-substitute-requires
+substitute-requires c κs = search needs
+
+both-requires : tie.Need-both-requires
+both-requires c κs = search needs
+
+same-length : tie.Need-same-length
+same-length c = search needs
+
+returns : tie.Need-returns
+unfolding solved solvedOk
+returns c =
+    let m = c .before .before .before .before .before .before .before .before .before .before .args .m in
+    λ M rest e sh.
+    let one = c .before .before .before .before .before .before .before .eliminate .ensures M rest e sh in
+    let two = c .before .before .before .substitute .ensures (eliminated plain m m M) rest (one .0) (eliminated-shaped plain m (m + 2) m M (omega arith) sh) in
+    (two .0, c .both .ensures ∙ rw (one .1, two .1))
+
+pub solve-rows-spec : {M : Type 1} → statement M
+solve-rows-spec =
+    tie.close
+    (tie.spec add-s eliminate-requires substitute-requires both-requires same-length returns)

@@ -1,0 +1,70 @@
+-- `solve::work::load_row` meets its contract: the numbers below k are copied.
+use Prim.Native.Nat.{_≤_, _<_, _-_}
+use native.Mathlib.Omega.{arith}
+use native.Mathlib.Numerals.{add-one}
+use mathlib.Core.Path.{_≡_, sym, ap, _∙_}
+use mathlib.Core.List.{List, _++_, [], _∷_}
+use lib.ListN.{length, take, getD}
+use lib.Seq.{take-suc-set, take-suc, take-length}
+use lib.Ieee.{nan, Float}
+use denote.Ref.{now}
+use borrow.Author.Needs.{needs}
+use Rattle.solve.proofs.work.load_row.Statement.{statement}
+use Rattle.solve.proofs.work.load_row.Tie as tie
+
+abbrev Inv-loop : tie.InvT-loop
+Inv-loop t out₀ end k₀ out k = (take k out ≡ take k t) × (k ≤ length t) × (length out ≡ 68)
+
+abbrev μ-loop : tie.MeasureT-loop
+μ-loop t out₀ end k₀ out k = length t - k
+
+loop-holds : tie.Need-loop-holds Inv-loop μ-loop
+loop-holds c = search needs
+
+mul-out : tie.Need-mul-out Inv-loop μ-loop
+mul-out c = search needs
+
+shared-slice-read-out : tie.Need-shared-slice-read-out Inv-loop μ-loop
+shared-slice-read-out c = search needs
+
+mul-out-2 : tie.Need-mul-out-2 Inv-loop μ-loop
+mul-out-2 c = search needs
+
+array-write-out : tie.Need-array-write-out Inv-loop μ-loop
+array-write-out c = search needs
+
+add-k : tie.Need-add-k Inv-loop μ-loop
+add-k c = search needs
+
+loop-less : tie.Need-loop-less Inv-loop μ-loop
+loop-less c = search needs
+
+loop-again : tie.Need-loop-again Inv-loop μ-loop
+loop-again c =
+    let t = c .before .before .before .args .t .now in
+    let l = c .before .before .loop in
+    let inT : l .k < length t = search needs in
+    let inO : l .k < length (l .out) = omega (arith, c .before .before .before .pre) in
+    (rw (add-one (l .k)) (take-suc-set (l .out) (l .k) (getD t (l .k) nan) inO ∙ ap (λ (q : List Float). q ++ getD t (l .k) nan ∷ []) (l .inv .0) ∙ sym (take-suc t (l .k) nan inT)), search needs, search needs)
+
+returns : tie.Need-returns Inv-loop μ-loop
+returns c =
+    let t = now (c .before .before .args .t) in
+    let e : c .before .loop .k ≡ length t = omega arith in
+    (search needs, (rw e at (c .before .loop .inv .0)) ∙ take-length t)
+
+pub load-row-spec : {M : Type 1} → statement M
+load-row-spec =
+    tie.close
+    (tie.spec
+    Inv-loop
+    μ-loop
+    loop-holds
+    mul-out
+    shared-slice-read-out
+    mul-out-2
+    array-write-out
+    add-k
+    loop-less
+    loop-again
+    returns)

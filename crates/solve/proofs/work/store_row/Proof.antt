@@ -1,0 +1,68 @@
+-- `solve::work::store_row` meets its contract: the numbers below k are those of y.
+use Prim.Native.Nat.{_≤_, _-_}
+use mathlib.Core.Path.{_≡_, refl, _∙_}
+use lib.ListN.{length}
+use lib.Ieee.{nan}
+use denote.Ref.{now}
+use Rattle.solve.proofs.Lists.{blend, blend-next, blend-all}
+use borrow.Author.Needs.{needs}
+use Rattle.solve.proofs.work.store_row.Statement.{statement}
+use Rattle.solve.proofs.work.store_row.Tie as tie
+
+abbrev Inv-loop : tie.InvT-loop
+Inv-loop t₀ y end k₀ t k = (t ≡ blend k y t₀) × (k ≤ length t₀) × (length t ≡ length t₀)
+
+abbrev μ-loop : tie.MeasureT-loop
+μ-loop t₀ y end k₀ t k = length t₀ - k
+
+loop-holds : tie.Need-loop-holds Inv-loop μ-loop
+loop-holds c = search needs
+
+mul-t : tie.Need-mul-t Inv-loop μ-loop
+mul-t c = search needs
+
+shared-slice-read-t : tie.Need-shared-slice-read-t Inv-loop μ-loop
+shared-slice-read-t c = search needs
+
+mul-t-2 : tie.Need-mul-t-2 Inv-loop μ-loop
+mul-t-2 c = search needs
+
+slice-write-t : tie.Need-slice-write-t Inv-loop μ-loop
+slice-write-t c = search needs
+
+add-k : tie.Need-add-k Inv-loop μ-loop
+add-k c = search needs
+
+loop-less : tie.Need-loop-less Inv-loop μ-loop
+loop-less c = search needs
+
+loop-again : tie.Need-loop-again Inv-loop μ-loop
+loop-again c =
+    let a = c .before .before .before .args in
+    let l = c .before .before .loop in
+    (blend-next (a .y .now) (a .t .now) (l .t) (l .k) _ nan (l .inv .0) (search needs) (search needs) refl, search needs, search needs)
+
+same-length : tie.Need-same-length Inv-loop μ-loop
+same-length c = search needs
+
+returns : tie.Need-returns Inv-loop μ-loop
+returns c =
+    let a = c .before .before .args in
+    c .before .loop .inv .0 ∙ blend-all (now (a .y)) (now (a .t)) (c .before .loop .k) (search needs) (search needs)
+
+pub store-row-spec : {M : Type 1} → statement M
+store-row-spec =
+    tie.close
+    (tie.spec
+    Inv-loop
+    μ-loop
+    loop-holds
+    mul-t
+    shared-slice-read-t
+    mul-t-2
+    slice-write-t
+    add-k
+    loop-less
+    loop-again
+    same-length
+    returns)

@@ -1,0 +1,44 @@
+-- Lists made index by index, a test of every index, and rows of numbers: a list of lists, and the same laid one after the other in a buffer.
+use mathlib.Core.Path.{_≡_}
+use mathlib.Core.Bool.{Bool, true, _&&_}
+use mathlib.Core.List.{List, [], _∷_, _++_}
+use Prim.Native.Nat.{ℕ, zero, suc, _<_}
+use lib.ListN.{length, take, drop, getD, set}
+
+-- f i, f (i + 1) and so on, n of them
+unfoldable pub tabFrom : {A : Type 0} → ℕ → ℕ → (ℕ → A) → List A
+tabFrom i zero f = []
+tabFrom i (suc n) f = f i ∷ tabFrom (suc i) n f
+
+-- f 0, .., f (n - 1)
+unfoldable pub tab : {A : Type 0} → ℕ → (ℕ → A) → List A
+unfolding tabFrom
+tab n f = tabFrom zero n f
+
+-- the test holds at every index below n
+unfoldable pub allBelow : ℕ → (ℕ → Bool) → Bool
+allBelow zero p = true
+allBelow (suc n) p = allBelow n p && p n
+
+-- rows i and j exchanged
+unfoldable pub swapped : {A : Type 0} → List (List A) → ℕ → ℕ → List (List A)
+swapped M i j = set (set M i (getD M j [])) j (getD M i [])
+
+-- rows laid one after the other, and what stands after them
+unfoldable pub flat : {A : Type 0} → List (List A) → List A → List A
+flat [] rest = rest
+flat (r ∷ rs) rest = r ++ flat rs rest
+
+-- the first m rows of s numbers that a list holds
+unfoldable pub rowsOf : {A : Type 0} → ℕ → ℕ → List A → List (List A)
+rowsOf zero s l = []
+rowsOf (suc m) s l = take s l ∷ rowsOf m s (drop s l)
+
+-- m rows of s numbers
+pub record Shaped {A : Type 0} (m s : ℕ) (M : List (List A)) : Type 0 where
+  pub count : length M ≡ m
+  pub each : (r : ℕ) → r < m → length (getD M r []) ≡ s
+
+-- P holds of any m rows of s numbers that lie at the front of the list w, and of what stands after them
+abbrev pub ofRows : {A : Type 0} → ℕ → ℕ → List A → (List (List A) → List A → Type 0) → Type 0
+ofRows {A} m s w P = (M : List (List A)) (rest : List A) → w ≡ flat M rest → Shaped m s M → P M rest

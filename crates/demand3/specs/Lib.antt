@@ -1,0 +1,2 @@
+-- Demand 3 for the curve record.
+pub mod Demand

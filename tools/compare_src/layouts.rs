@@ -36,6 +36,16 @@ impl Layout {
         }
     }
 
+    /// Of control points and knots made elsewhere, and of what kind they are.
+    pub fn of(coords: (Vec<f64>, &'static str), knots: (Vec<f64>, &'static str)) -> Self {
+        Layout {
+            coords: coords.0,
+            knots: knots.0,
+            given: true,
+            drawn: [coords.1, knots.1],
+        }
+    }
+
     /// What is to be counted of it, as drawn.
     pub fn kinds(&self) -> Vec<&'static str> {
         const TIMES: [&str; 3] = [
@@ -160,7 +170,7 @@ fn uniform(n: usize) -> Vec<f64> {
     knots
 }
 
-fn coordinates(random: &mut Random, n: usize) -> (Vec<f64>, &'static str) {
+pub fn coordinates(random: &mut Random, n: usize) -> (Vec<f64>, &'static str) {
     let kind = random.below(14);
     let mut list = |one: &mut dyn FnMut(&mut Random) -> f64| -> Vec<f64> {
         (0..2 * n).map(|_| one(random)).collect()
@@ -208,8 +218,13 @@ fn all_equal(random: &mut Random, n: usize) -> Vec<f64> {
     [point].repeat(n).concat()
 }
 
-fn given_knots(random: &mut Random, n: usize) -> (Vec<f64>, &'static str) {
-    let (mut values, kind) = rising_values(random, n - 2);
+pub fn given_knots(random: &mut Random, n: usize) -> (Vec<f64>, &'static str) {
+    let (values, kind) = rising_values(random, n - 2);
+    (clamped(random, values), kind)
+}
+
+/// Knots of rising values: the ends four times, and interior ones repeated by chance.
+pub fn clamped(random: &mut Random, mut values: Vec<f64>) -> Vec<f64> {
     // sometimes none is repeated, sometimes few, sometimes most; rarely more often than is allowed
     let every = [0, 6, 2][random.below(3) as usize];
     let most = if random.once_in(32) { 4 } else { 3 };
@@ -229,7 +244,7 @@ fn given_knots(random: &mut Random, n: usize) -> (Vec<f64>, &'static str) {
         let zeros = knots.iter_mut().filter(|k| **k == 0.0);
         zeros.for_each(|k| *k = if random.once_in(2) { -0.0 } else { 0.0 });
     }
-    (knots, kind)
+    knots
 }
 
 /// So many doubles, each above the one before unless chance has two of them equal.
@@ -292,7 +307,7 @@ fn rising_values(random: &mut Random, many: usize) -> (Vec<f64>, &'static str) {
     }
 }
 
-fn between(random: &mut Random, many: usize, lo: f64, hi: f64) -> Vec<f64> {
+pub fn between(random: &mut Random, many: usize, lo: f64, hi: f64) -> Vec<f64> {
     let mut values: Vec<f64> = (0..many).map(|_| mixed(random, lo, hi)).collect();
     values[0] = lo;
     values[1] = hi;

@@ -6,6 +6,8 @@
 //! A later layer adds a file with its `run` and a line to `SECTIONS`.
 
 mod curves;
+mod exact;
+mod hull;
 mod layouts;
 mod lent;
 mod numbers;
@@ -59,6 +61,11 @@ const SECTIONS: &[Section] = &[
         name: "curves",
         rounds: 1_000_000,
         run: curves::run,
+    },
+    Section {
+        name: "hull",
+        rounds: 500_000,
+        run: hull::run,
     },
 ];
 

@@ -9,6 +9,7 @@ pub struct Tally {
     differences: u64,
     told: Vec<String>,
     kinds: Vec<(&'static str, u64)>,
+    notes: Vec<String>,
 }
 
 impl Tally {
@@ -32,6 +33,11 @@ impl Tally {
         }
     }
 
+    /// Something measured, printed after the kinds.
+    pub fn note(&mut self, words: String) {
+        self.notes.push(words);
+    }
+
     pub fn differences(&self) -> u64 {
         self.differences
     }
@@ -45,6 +51,9 @@ impl Tally {
         kinds.sort();
         for (kind, count) in kinds {
             println!("{:>30}  {kind}", count);
+        }
+        for words in &self.notes {
+            println!("{:>30}  {words}", "measured:");
         }
         for words in &self.told {
             println!("  differs: {words}");

@@ -37,13 +37,16 @@ returns c =
     let y = c .before .before .before .before .before in
     let x = y .before .before .before .before in
     let k = x .before .before .before .before in
-    let a = k .before .before .before .before .before .args in
-    (e .ensures,
-    ((λ b z.
-    in-hull (a .t1) (a .t) b (k .doubles .ensures) (x .doubles2 .ensures) (y .doubles3 .ensures) dt (a .order) (now (a .out)) _
-    (subst (λ (m : ℕ). Answer (recordRules (a .t1) ++ pointRules (shapeOf (a .t1)) (a .t) (a .order) (now (a .out))) (pointOrders (shapeOf (a .t1)) (a .t) (a .order)) (numbersFor (a .order)) (now (a .out)) m (e .last .1 .1 .1 .0)) z (e .ensures))),
-    (λ p.
-    never-refused (a .t1) (a .t) (p .bounded) (k .doubles .ensures) (x .doubles2 .ensures) (y .doubles3 .ensures) dt (a .order) (now (a .out)) _ p (e .ensures))))
+    let a = k .before .before .before .before .before .args in (
+      e .ensures,
+      (
+        (λ b z.
+            in-hull (a .t1) (a .t) b (k .doubles .ensures) (x .doubles2 .ensures) (y .doubles3 .ensures) dt (a .order) (now (a .out)) _
+            (subst (λ (m : ℕ). Answer (recordRules (a .t1) ++ pointRules (shapeOf (a .t1)) (a .t) (a .order) (now (a .out))) (pointOrders (shapeOf (a .t1)) (a .t) (a .order)) (numbersFor (a .order)) (now (a .out)) m (e .last .1 .1 .1 .0)) z (e .ensures))),
+        (λ p.
+            never-refused (a .t1) (a .t) (p .bounded) (k .doubles .ensures) (x .doubles2 .ensures) (y .doubles3 .ensures) dt (a .order) (now (a .out)) _ p (e .ensures)),
+      ),
+    )
 
 pub evaluate-spec : {M : Type 1} → statement M
 evaluate-spec =

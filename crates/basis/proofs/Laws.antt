@@ -1,12 +1,10 @@
 -- Each composed definition from its parts, over any scalar: the proofs of both copies cite these. Assumes nothing.
 use mathlib.Core.Path.{_≡_, ap, _∙_}
-use Prim.Native.Nat.{ℕ, _+_, _-_, _≤_, _<_, _^_, min}
+use Prim.Native.Nat.{ℕ, _+_, _-_, _≤_, _<_, min}
 use mathlib.Core.List.{List}
 use lib.ListN.{set}
-use lib.Dec.{T, le→leb}
 use lib.IntN.{ℤ, pos}
-use lib.Ieee.{binary64, mul, ofInt, inFloat}
-use native.Mathlib.Omega.{arith}
+use lib.Ieee.{binary64, mul, ofInt}
 use borrow.Author.Tests.{le-leb, lt-leb}
 use Rattle.meaning.specs.Scalar.{Ops, zero64}
 use Rattle.meaning.specs.Loops.{turns, run}
@@ -15,11 +13,6 @@ use Rattle.basis.specs.Columns.{below, columnAt}
 use Rattle.basis.specs.Triangle.{Cell, Column, Sides, cellOf, columnTurn, columnOf, sidesTurn, noSides, triangleOf}
 use Rattle.basis.specs.Derivatives.{Coefs, gapAt, valueAt, firstPut, midPut, lastPut, firstCoef, midTurn, midCoefs, lastCoef, cleared, swapped, orderOf}
 use Rattle.basis.specs.Basis.{Orders, Scaling, noOrders, valuesOf, orderTurn, functionOf, functionsOf, scaledRow, scaleTurn, scaled, derivativesOf, basisOf}
-
--- a small whole number is a double
-pub small-float : (n : ℕ) → n ≤ 3 → T (inFloat binary64 (pos n))
-unfolding inFloat
-small-float n h = le→leb n (2 ^ 53) (omega arith)
 
 module _ {A : Type 0} (o : Ops A) where
   -- ---- the table

@@ -1,11 +1,11 @@
 -- Two tables of refusals, one after the other. Assumes nothing.
-use mathlib.Core.Path.{_≡_, refl, sym, ap, _∙_}
+use mathlib.Core.Path.{_≡_, refl, sym, _∙_}
 use mathlib.Core.Bool.{Bool, true, false, _&&_}
 use mathlib.Core.List.{List, [], _∷_, _++_}
 use Prim.Native.Nat.{ℕ, zero, suc}
 use native.Mathlib.Omega.{arith}
-use lib.Dec.{T, eqb}
-use Rattle.meaning.specs.Refusals.{Row, row, firstOf}
+use lib.Dec.{T}
+use Rattle.meaning.specs.Refusals.{Row, firstOf}
 use Rattle.knots.proofs.Tests.{by-two}
 
 abbrev above : ℕ → Bool

@@ -1,17 +1,16 @@
 -- The samples in their room: pair after pair, then the end. Assumes nothing.
 use mathlib.Core.Path.{_≡_, refl, sym, ap, _∙_}
 use mathlib.Core.Bool.{Bool, true, false, not, cond}
-use mathlib.Core.List.{List, [], _∷_, _++_, append-nil, append-assoc}
-use Prim.Native.Nat.{ℕ, zero, suc, _+_, _-_, _*_, _^_, _≤_, _<_}
+use mathlib.Core.List.{List, [], _∷_, _++_}
+use Prim.Native.Nat.{ℕ, suc, _+_, _-_, _*_, _≤_, _<_}
 use native.Mathlib.Nat.{le-refl, zero-add, suc-ne-zero}
 use borrow.Author.Tests.{ne-eqb}
 use native.Mathlib.Numerals.{add-one}
 use native.Mathlib.Omega.{arith}
 use lib.ListN.{length, getD, set, take, drop, length-append, List·getD-append}
 use lib.Seq.{paste, take-append-seam, take-length, take-at, take-all, drop-append-add, drop-drop, drop-cons, set-at, append-snoc}
-use lib.Dec.{T, eqb, le→leb}
-use lib.IntN.{pos}
-use lib.Ieee.{Float, nan, binary64, inFloat, lt}
+use lib.Dec.{eqb}
+use lib.Ieee.{Float, nan, lt}
 use lib.Ieee.Scale.{finite}
 use Rattle.meaning.specs.Scalar.{plain}
 use Rattle.meaning.specs.Table.{at1}
@@ -25,11 +24,6 @@ use Rattle.evaluate.specs.Point.{Shape}
 use Rattle.curve.specs.Record.{someWild}
 use Rattle.curve.specs.Samples.{sampleAt, risingSamples, pairSamples, samplesOf}
 use Rattle.curve.specs.Answer.{Answer}
-
--- a double holds each such number
-pub held : (n : ℕ) → n ≤ 16 → T (inFloat binary64 (pos n))
-unfolding inFloat
-held n h = le→leb n (2 ^ 53) (omega arith)
 
 -- sample s of the list
 pub sample-is : (w0 w1 : Float) (per s : ℕ) → s < per → getD (listed 0 per (sampleAt w0 w1 per)) s nan ≡ sampleAt w0 w1 per s

@@ -1,21 +1,21 @@
 -- What the rules of a record and of slices tell of its knots. Assumes nothing.
 use mathlib.Core.Path.{_≡_, refl, sym, ap, _∙_}
-use mathlib.Core.Bool.{Bool, true, false, not, _||_, cond}
-use mathlib.Core.List.{List, [], _∷_, _++_}
+use mathlib.Core.Bool.{Bool, true, false, _||_}
+use mathlib.Core.List.{List, [], _∷_}
 use Prim.Native.Nat.{ℕ, zero, suc, _+_, _≤_, _<_}
 use native.Mathlib.Nat.{suc-ne-zero}
 use native.Mathlib.Omega.{arith}
 use borrow.Author.Tests.{le-leb, lt-leb, leb-true}
 use lib.ListN.{length, take, length-take}
-use lib.Dec.{T, leb, eqb}
+use lib.Dec.{T, leb}
 use lib.Ieee.{Float}
-use Rattle.meaning.specs.Refusals.{Row, row, firstOf}
+use Rattle.meaning.specs.Refusals.{row, firstOf}
 use Rattle.knots.specs.Rules.{knotRules}
 use Rattle.knots.proofs.Accepted.{Accepted, accepted}
 use Rattle.knots.proofs.Tests.{by-two}
 use Rattle.curve.specs.declared.Curve.{Curve}
 use Rattle.curve.specs.Record.{someWild, countedKnots, recordRules}
-use Rattle.curve.proofs.Rows.{numbered, row-applies, row-passes, second-decides, first-decides}
+use Rattle.curve.proofs.Rows.{numbered, second-decides, first-decides}
 
 pub numbered-knots : (n : ℕ) (fit given : Bool) (ks : List Float) → T (numbered (knotRules n fit given ks))
 unfolding knotRules

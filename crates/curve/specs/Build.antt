@@ -12,8 +12,9 @@ use Rattle.meaning.specs.Refusals.{Row, row, firstOf}
 use Rattle.knots.specs.Rules.{knotRules}
 use Rattle.knots.specs.Uniform.{uniformOf}
 use Rattle.buffer.specs.Pasted.{pasted}
+use Rattle.evaluate.specs.Point.{Shape}
 use Rattle.curve.specs.declared.Curve.{Curve}
-use Rattle.curve.specs.Record.{someWild, emptyCurve}
+use Rattle.curve.specs.Record.{shapeOf, someWild, emptyCurve}
 use Rattle.curve.specs.Answer.{Answer}
 
 -- coordinates stand x, y in turn: every second number from `off` on, n of them, in a room of 66
@@ -28,6 +29,10 @@ abbrev pub controlCurve : List Float → Bool → List Float → Curve
 controlCurve coords given ks =
     let n = length coords / 2 in
     record { points = n; «knot_count» = n + 4; xs = everyOther coords n 0; ys = everyOther coords n 1; knots = storedKnots n given ks }
+
+-- the curve that stands in two slices
+abbrev pub sliceShape : List Float → List Float → Shape Float
+sliceShape coords ks = shapeOf (controlCurve coords true ks)
 
 -- the rules for control points x, y in turn and for knots, if any are given
 unfoldable pub sliceRules : List Float → Bool → List Float → List Row

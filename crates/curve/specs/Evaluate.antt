@@ -1,6 +1,6 @@
 -- The doors that take a parameter. Document 01, "Evaluate" and the table of refusals, decides.
-use mathlib.Core.Bool.{Bool, not}
-use mathlib.Core.List.{List, [], _∷_, _++_}
+use mathlib.Core.Bool.{not}
+use mathlib.Core.List.{List, [], _∷_}
 use Prim.Native.Nat.{ℕ, _+_, _*_}
 use lib.ListN.{length}
 use lib.Dec.{ltb}
@@ -10,7 +10,7 @@ use Rattle.meaning.specs.Scalar.{plain}
 use Rattle.meaning.specs.Table.{at1}
 use Rattle.meaning.specs.Refusals.{Row, row}
 use Rattle.knots.specs.Span.{spanOf}
-use Rattle.plane.specs.Vector.{Vector, unitV}
+use Rattle.plane.specs.Vector.{unitV}
 use Rattle.evaluate.specs.Point.{Shape, ordersOf}
 use Rattle.curve.specs.Record.{someWild}
 

@@ -18,7 +18,7 @@ ghost use Rattle.curve.specs.Answer.{Answer};
 ghost use Rattle.curve.specs.Evaluate.{pointOrders, numbersFor, pointRules, tangentNumbers, tangentRules};
 ghost use Rattle.curve.specs.Length.{lengthOf, lengthRules, domainOf, domainRules};
 ghost use Rattle.curve.specs.Samples.{sampleAt, risingSamples, pairSamples, samplesOf, sampleRules, AnswerCounted};
-ghost use Rattle.curve.specs.Build.{everyOther, storedKnots, controlCurve, sliceRules, controlRules, intoRules, AnswerBuild, knotsBuilt, builtBy};
+ghost use Rattle.curve.specs.Build.{everyOther, storedKnots, controlCurve, sliceShape, sliceRules, controlRules, intoRules, AnswerBuild, knotsBuilt, builtBy};
 use knots::Refusal;
 use plane::P2;
 
@@ -402,7 +402,7 @@ pub fn evaluate_slices(
     order: usize,
     out: &mut [f64],
 ) -> Refusal
-    ensures { λ r. ⌜ Answer (sliceRules (now (coords .entry)) true (now (knots .entry)) ++ pointRules (shapeOf (controlCurve (now (coords .entry)) true (now (knots .entry)))) t order (now (out .entry))) (pointOrders (shapeOf (controlCurve (now (coords .entry)) true (now (knots .entry)))) t order) (numbersFor order) (now (out .entry)) (r .number) (now (out .exit)) ⌝ }
+    ensures { λ r. ⌜ Answer (sliceRules (now (coords .entry)) true (now (knots .entry)) ++ pointRules (sliceShape (now (coords .entry)) (now (knots .entry))) t order (now (out .entry))) (pointOrders (sliceShape (now (coords .entry)) (now (knots .entry))) t order) (numbersFor order) (now (out .entry)) (r .number) (now (out .exit)) ⌝ }
 {
     let b = assemble(coords, true, knots);
     if b.refusal.number != 0 {
@@ -425,7 +425,7 @@ pub fn point_tangent(c: Curve, t: f64, out: &mut [f64]) -> Refusal
 
 // The same for a curve in slices: control points x, y in turn, and knots.
 pub fn point_tangent_slices(coords: &[f64], knots: &[f64], t: f64, out: &mut [f64]) -> Refusal
-    ensures { λ r. ⌜ Answer (sliceRules (now (coords .entry)) true (now (knots .entry)) ++ tangentRules (shapeOf (controlCurve (now (coords .entry)) true (now (knots .entry)))) t (now (out .entry))) (tangentNumbers (shapeOf (controlCurve (now (coords .entry)) true (now (knots .entry)))) t) 4 (now (out .entry)) (r .number) (now (out .exit)) ⌝ }
+    ensures { λ r. ⌜ Answer (sliceRules (now (coords .entry)) true (now (knots .entry)) ++ tangentRules (sliceShape (now (coords .entry)) (now (knots .entry))) t (now (out .entry))) (tangentNumbers (sliceShape (now (coords .entry)) (now (knots .entry))) t) 4 (now (out .entry)) (r .number) (now (out .exit)) ⌝ }
 {
     let b = assemble(coords, true, knots);
     if b.refusal.number != 0 {
@@ -448,7 +448,7 @@ pub fn length(c: Curve, out: &mut [f64]) -> Refusal
 
 // The same for a curve in slices: control points x, y in turn, and knots.
 pub fn length_slices(coords: &[f64], knots: &[f64], out: &mut [f64]) -> Refusal
-    ensures { λ r. ⌜ Answer (sliceRules (now (coords .entry)) true (now (knots .entry)) ++ lengthRules (shapeOf (controlCurve (now (coords .entry)) true (now (knots .entry)))) (now (out .entry))) (lengthOf plain (shapeOf (controlCurve (now (coords .entry)) true (now (knots .entry)))) ∷ []) 1 (now (out .entry)) (r .number) (now (out .exit)) ⌝ }
+    ensures { λ r. ⌜ Answer (sliceRules (now (coords .entry)) true (now (knots .entry)) ++ lengthRules (sliceShape (now (coords .entry)) (now (knots .entry))) (now (out .entry))) (lengthOf plain (sliceShape (now (coords .entry)) (now (knots .entry))) ∷ []) 1 (now (out .entry)) (r .number) (now (out .exit)) ⌝ }
 {
     let b = assemble(coords, true, knots);
     if b.refusal.number != 0 {
@@ -471,7 +471,7 @@ pub fn domain(c: Curve, out: &mut [f64]) -> Refusal
 
 // The same for a curve in slices: control points x, y in turn, and knots.
 pub fn domain_slices(coords: &[f64], knots: &[f64], out: &mut [f64]) -> Refusal
-    ensures { λ r. ⌜ Answer (sliceRules (now (coords .entry)) true (now (knots .entry)) ++ domainRules (now (out .entry))) (domainOf (shapeOf (controlCurve (now (coords .entry)) true (now (knots .entry))))) 2 (now (out .entry)) (r .number) (now (out .exit)) ⌝ }
+    ensures { λ r. ⌜ Answer (sliceRules (now (coords .entry)) true (now (knots .entry)) ++ domainRules (now (out .entry))) (domainOf (sliceShape (now (coords .entry)) (now (knots .entry)))) 2 (now (out .entry)) (r .number) (now (out .exit)) ⌝ }
 {
     let b = assemble(coords, true, knots);
     if b.refusal.number != 0 {
@@ -500,7 +500,7 @@ pub fn samples_slices(
     out: &mut [f64],
     count: &mut u64,
 ) -> Refusal
-    ensures { λ r. ⌜ AnswerCounted (sliceRules (now (coords .entry)) true (now (knots .entry)) ++ sampleRules (shapeOf (controlCurve (now (coords .entry)) true (now (knots .entry)))) per (now (out .entry))) (samplesOf (shapeOf (controlCurve (now (coords .entry)) true (now (knots .entry)))) per) (now (out .entry)) (now (count .entry)) (r .number) (now (out .exit)) (now (count .exit)) ⌝ }
+    ensures { λ r. ⌜ AnswerCounted (sliceRules (now (coords .entry)) true (now (knots .entry)) ++ sampleRules (sliceShape (now (coords .entry)) (now (knots .entry))) per (now (out .entry))) (samplesOf (sliceShape (now (coords .entry)) (now (knots .entry))) per) (now (out .entry)) (now (count .entry)) (r .number) (now (out .exit)) (now (count .exit)) ⌝ }
 {
     let b = assemble(coords, true, knots);
     if b.refusal.number != 0 {

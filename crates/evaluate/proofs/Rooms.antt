@@ -1,11 +1,11 @@
 -- The room for five orders: what stands in it, and what is put into it past an end of the domain. Assumes nothing.
-use mathlib.Core.Path.{_≡_, refl, sym, ap, _∙_}
-use Prim.Native.Nat.{ℕ, zero, suc, _+_, _*_, _≤_, _<_}
+use mathlib.Core.Path.{_≡_, refl, ap}
+use Prim.Native.Nat.{ℕ, zero, suc, _+_, _≤_, _<_}
 use native.Mathlib.Omega.{arith}
-use mathlib.Core.List.{List, [], _∷_}
+use mathlib.Core.List.{List}
 use lib.ListN.{getD, set, replicate}
 use lib.Ieee.{Float, nan}
-use Rattle.meaning.specs.Scalar.{Ops, plain, zero64}
+use Rattle.meaning.specs.Scalar.{plain, zero64}
 use Rattle.meaning.specs.Loops.{turns}
 use Rattle.plane.specs.Vector.{Vector}
 use Rattle.evaluate.specs.Point.{placed}

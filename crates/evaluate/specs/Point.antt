@@ -1,7 +1,7 @@
 -- A point of a curve and its derivatives, over any scalar. Document 01, "Evaluate", decides; document 000's `eval` and `eval_span` the order of the
 -- operations.
 use Prim.Native.Nat.{ℕ, zero, suc, _+_, _-_, _*_}
-use mathlib.Core.Bool.{Bool, _&&_, cond}
+use mathlib.Core.Bool.{_&&_, cond}
 use mathlib.Core.List.{List, []}
 use lib.ListN.{getD, set, replicate}
 use lib.Dec.{leb}

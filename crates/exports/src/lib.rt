@@ -12,9 +12,8 @@ ghost use Rattle.meaning.specs.Scalar.{plain};
 ghost use Rattle.partials.specs.Dual.{dual, varDv, addDv, subDv, mulDv, divDv, negDv, rootDv, overshootDv, fineDv};
 ghost use Rattle.plane.specs.Vector.{addV, subV, scaleV, dotV, normV, unitV};
 ghost use Rattle.plane.specs.View.{view, viewD};
-ghost use Rattle.curve.specs.Record.{shapeOf};
 ghost use Rattle.curve.specs.Answer.{Answer};
-ghost use Rattle.curve.specs.Build.{storedKnots, knotsBuilt, controlCurve, sliceRules, intoRules, AnswerBuild};
+ghost use Rattle.curve.specs.Build.{storedKnots, knotsBuilt, sliceShape, sliceRules, intoRules, AnswerBuild};
 ghost use Rattle.curve.specs.Evaluate.{pointOrders, numbersFor, pointRules, tangentNumbers, tangentRules};
 ghost use Rattle.curve.specs.Length.{lengthOf, lengthRules};
 ghost use Rattle.curve.specs.Samples.{samplesOf, sampleRules, AnswerCounted};
@@ -481,7 +480,7 @@ pub extern "C" fn threshdune_evaluate(
     order: u64,
     out: &mut [f64],
 ) -> u64
-    ensures { λ r. ⌜ Answer (sliceRules (now (coords .entry)) true (now (knots .entry)) ++ pointRules (shapeOf (controlCurve (now (coords .entry)) true (now (knots .entry)))) t order (now (out .entry))) (pointOrders (shapeOf (controlCurve (now (coords .entry)) true (now (knots .entry)))) t order) (numbersFor order) (now (out .entry)) r (now (out .exit)) ⌝ }
+    ensures { λ r. ⌜ Answer (sliceRules (now (coords .entry)) true (now (knots .entry)) ++ pointRules (sliceShape (now (coords .entry)) (now (knots .entry))) t order (now (out .entry))) (pointOrders (sliceShape (now (coords .entry)) (now (knots .entry))) t order) (numbersFor order) (now (out .entry)) r (now (out .exit)) ⌝ }
 {
     let r = curve::evaluate_slices(coords, knots, t, order as usize, out);
     r.number
@@ -495,7 +494,7 @@ pub extern "C" fn threshdune_point_tangent(
     t: f64,
     out: &mut [f64],
 ) -> u64
-    ensures { λ r. ⌜ Answer (sliceRules (now (coords .entry)) true (now (knots .entry)) ++ tangentRules (shapeOf (controlCurve (now (coords .entry)) true (now (knots .entry)))) t (now (out .entry))) (tangentNumbers (shapeOf (controlCurve (now (coords .entry)) true (now (knots .entry)))) t) 4 (now (out .entry)) r (now (out .exit)) ⌝ }
+    ensures { λ r. ⌜ Answer (sliceRules (now (coords .entry)) true (now (knots .entry)) ++ tangentRules (sliceShape (now (coords .entry)) (now (knots .entry))) t (now (out .entry))) (tangentNumbers (sliceShape (now (coords .entry)) (now (knots .entry))) t) 4 (now (out .entry)) r (now (out .exit)) ⌝ }
 {
     let r = curve::point_tangent_slices(coords, knots, t, out);
     r.number
@@ -504,7 +503,7 @@ pub extern "C" fn threshdune_point_tangent(
 // The length of the control polygon.
 #[no_mangle]
 pub extern "C" fn threshdune_length(coords: &[f64], knots: &[f64], out: &mut [f64]) -> u64
-    ensures { λ r. ⌜ Answer (sliceRules (now (coords .entry)) true (now (knots .entry)) ++ lengthRules (shapeOf (controlCurve (now (coords .entry)) true (now (knots .entry)))) (now (out .entry))) (lengthOf plain (shapeOf (controlCurve (now (coords .entry)) true (now (knots .entry)))) ∷ []) 1 (now (out .entry)) r (now (out .exit)) ⌝ }
+    ensures { λ r. ⌜ Answer (sliceRules (now (coords .entry)) true (now (knots .entry)) ++ lengthRules (sliceShape (now (coords .entry)) (now (knots .entry))) (now (out .entry))) (lengthOf plain (sliceShape (now (coords .entry)) (now (knots .entry))) ∷ []) 1 (now (out .entry)) r (now (out .exit)) ⌝ }
 {
     let r = curve::length_slices(coords, knots, out);
     r.number
@@ -519,7 +518,7 @@ pub extern "C" fn threshdune_samples(
     out: &mut [f64],
     count: &mut u64,
 ) -> u64
-    ensures { λ r. ⌜ AnswerCounted (sliceRules (now (coords .entry)) true (now (knots .entry)) ++ sampleRules (shapeOf (controlCurve (now (coords .entry)) true (now (knots .entry)))) «per_span» (now (out .entry))) (samplesOf (shapeOf (controlCurve (now (coords .entry)) true (now (knots .entry)))) «per_span») (now (out .entry)) (now (count .entry)) r (now (out .exit)) (now (count .exit)) ⌝ }
+    ensures { λ r. ⌜ AnswerCounted (sliceRules (now (coords .entry)) true (now (knots .entry)) ++ sampleRules (sliceShape (now (coords .entry)) (now (knots .entry))) «per_span» (now (out .entry))) (samplesOf (sliceShape (now (coords .entry)) (now (knots .entry))) «per_span») (now (out .entry)) (now (count .entry)) r (now (out .exit)) (now (count .exit)) ⌝ }
 {
     let r = curve::samples_slices(coords, knots, per_span as usize, out, count);
     r.number

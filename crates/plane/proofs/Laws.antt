@@ -1,7 +1,7 @@
 -- The length and the direction from their parts, over any scalar: the proofs of both copies cite these. Assumes nothing.
-use mathlib.Core.Path.{_≡_, sym, ap, _∙_}
+use mathlib.Core.Path.{_≡_}
 use mathlib.Core.Bool.{true, false}
-use lib.Ieee.{Float, binary64, mul, lt}
+use lib.Ieee.{binary64, mul, lt}
 use Rattle.meaning.specs.Scalar.{Ops, plain, zero64, one64}
 use Rattle.plane.specs.Vector.{Vector, degenerate, dotV, normV, unitV}
 

@@ -1,5 +1,5 @@
 -- Vectors of the plane, over any scalar. Document 000's `P2` decides the operations and their order.
-use mathlib.Core.Bool.{Bool, cond}
+use mathlib.Core.Bool.{cond}
 use lib.Ieee.{Float, binary64, mul, lt, ofBits}
 use Rattle.meaning.specs.Scalar.{Ops, plain, zero64, one64}
 

@@ -1,9 +1,9 @@
 -- `buffer::copy` meets its contract: after k turns k numbers are copied.
-use mathlib.Core.Path.{_≡_, sym, ap, _∙_}
+use mathlib.Core.Path.{_≡_}
 use Prim.Native.Nat.{_≤_, _-_}
 use native.Mathlib.Omega.{arith}
 use native.Mathlib.Numerals.{add-one}
-use lib.ListN.{length, length-set}
+use lib.ListN.{length}
 use lib.Seq.{paste, paste-zero, paste-suc}
 use lib.Ieee.{nan}
 use denote.Ref.{now}

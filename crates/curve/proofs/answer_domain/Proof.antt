@@ -1,12 +1,8 @@
 -- `curve::answer_domain` meets its contract.
-use mathlib.Core.Path.{_≡_, sym, ap, _∙_}
-use Prim.Native.Nat.{ℕ}
+use mathlib.Core.Path.{_∙_}
 use borrow.Author.Tests.{lt-ltb, le-ltb}
 use native.Mathlib.Omega.{arith}
 use denote.Ref.{now}
-use mathlib.Core.List.{[], _∷_}
-use Rattle.meaning.specs.Scalar.{plain}
-use Rattle.meaning.specs.Table.{at1}
 use Rattle.curve.specs.Record.{shapeOf}
 use Rattle.curve.specs.Length.{domainOf, domainRules}
 use Rattle.curve.proofs.Doors.{stop, pass, done, put-all}

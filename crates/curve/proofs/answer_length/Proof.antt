@@ -1,15 +1,14 @@
 -- `curve::answer_length` meets its contract.
-use mathlib.Core.Path.{_≡_, sym, ap, _∙_}
-use mathlib.Core.List.{List, [], _∷_}
+use mathlib.Core.Path.{sym, ap, _∙_}
+use mathlib.Core.List.{[], _∷_}
 use borrow.Author.Tests.{lt-ltb, le-ltb}
 use native.Mathlib.Omega.{arith}
 use denote.Ref.{now}
 use lib.Seq.{paste}
 use lib.Ieee.{Float}
-use Rattle.meaning.specs.Scalar.{plain}
 use Rattle.knots.proofs.Searching.{told-some, told-none}
-use Rattle.curve.specs.Record.{shapeOf, someWild}
-use Rattle.curve.specs.Length.{lengthOf, lengthRules}
+use Rattle.curve.specs.Record.{someWild}
+use Rattle.curve.specs.Length.{lengthRules}
 use Rattle.curve.proofs.Doors.{stop, pass, done, put-all}
 use borrow.Author.Needs.{needs}
 use Rattle.curve.proofs.answer_length.Statement.{statement}

@@ -1,12 +1,8 @@
 -- `curve::answer_point` meets its contract: the tests in the order of the table, then the numbers.
-use mathlib.Core.Path.{_≡_, sym, ap, _∙_}
-use Prim.Native.Nat.{ℕ}
+use mathlib.Core.Path.{_≡_, _∙_}
 use borrow.Author.Tests.{lt-ltb, le-ltb}
 use native.Mathlib.Omega.{arith}
 use denote.Ref.{now}
-use lib.ListN.{length}
-use lib.Seq.{length-paste}
-use lib.Ieee.{Float}
 use Rattle.meaning.specs.Scalar.{plain}
 use Rattle.knots.proofs.Searching.{told-some, told-none}
 use Rattle.knots.proofs.Spans.{accepted-span}

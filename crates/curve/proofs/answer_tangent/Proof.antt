@@ -1,6 +1,5 @@
 -- `curve::answer_tangent` meets its contract: the tests in the order of the table, then the numbers.
 use mathlib.Core.Path.{_≡_, sym, ap, _∙_}
-use Prim.Native.Nat.{ℕ}
 use borrow.Author.Tests.{lt-ltb, le-ltb}
 use native.Mathlib.Omega.{arith}
 use denote.Ref.{now}
@@ -14,7 +13,7 @@ use Rattle.knots.proofs.Spans.{accepted-span}
 use Rattle.plane.specs.Vector.{unitV}
 use Rattle.evaluate.proofs.Places.{same-span}
 use Rattle.curve.specs.Record.{shapeOf, someWild}
-use Rattle.curve.specs.Evaluate.{pointOrders, tangentNumbers, tangentRules}
+use Rattle.curve.specs.Evaluate.{tangentNumbers, tangentRules}
 use Rattle.curve.proofs.Doors.{stop, pass, done, put-all, not-told}
 use borrow.Author.Needs.{needs}
 use Rattle.curve.proofs.answer_tangent.Statement.{statement}

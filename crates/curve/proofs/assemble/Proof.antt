@@ -1,10 +1,10 @@
 -- `curve::assemble` meets its contract.
-use mathlib.Core.Path.{_≡_, refl, sym, ap, _∙_}
-use Prim.Native.Nat.{ℕ, _*_, _/_, _≤_}
+use mathlib.Core.Path.{sym, ap, _∙_}
+use Prim.Native.Nat.{_/_, _≤_}
 use native.Mathlib.Omega.{arith}
 use denote.Ref.{now}
 use lib.ListN.{length}
-use Rattle.curve.specs.Build.{sliceRules, controlCurve}
+use Rattle.curve.specs.Build.{controlCurve}
 use Rattle.knots.proofs.Searching.{told-some, told-none}
 use Rattle.curve.proofs.Assembled.{room-of, built-refused, built-made, odd-slices, knots-refused-slices, wild-slices, tame-slices}
 use borrow.Author.Needs.{needs}

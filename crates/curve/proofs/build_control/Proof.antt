@@ -1,10 +1,7 @@
 -- `curve::build_control` meets its contract: what is assembled, unless a stored knot is not finite.
 use mathlib.Core.Path.{_≡_, sym, ap, _∙_}
-use Prim.Native.Nat.{ℕ}
 use native.Mathlib.Omega.{arith}
 use denote.Ref.{now}
-use lib.Ieee.{Float}
-use mathlib.Core.List.{List}
 use Rattle.curve.specs.declared.Curve.{Curve}
 use Rattle.curve.specs.Record.{someWild}
 use Rattle.curve.specs.Build.{controlCurve}

@@ -1,10 +1,9 @@
 -- `curve::build_control_slices` meets its contract.
-use mathlib.Core.Path.{_≡_, sym, ap, _∙_, subst}
+use mathlib.Core.Path.{_≡_, sym, ap, _∙_}
 use native.Mathlib.Omega.{arith}
 use denote.Ref.{now}
-use lib.ListN.{length}
 use Rattle.curve.specs.declared.Curve.{Curve}
-use Rattle.curve.specs.Build.{controlCurve, sliceRules, intoRules, AnswerBuild}
+use Rattle.curve.specs.Build.{controlCurve, sliceRules}
 use Rattle.curve.proofs.Doors.{refused-build, after-build, moved-build}
 use Rattle.curve.proofs.Assembled.{room-of, built-made, numbered-slices, slices-passed}
 use borrow.Author.Needs.{needs}

@@ -1,5 +1,5 @@
 -- `curve::evaluate_slices` meets its contract: the rules of the slices, then the answer.
-use mathlib.Core.Path.{_≡_, sym, ap, _∙_, subst}
+use mathlib.Core.Path.{_≡_, sym, _∙_, subst}
 use mathlib.Core.Bool.{true}
 use Prim.Native.Nat.{_+_}
 use denote.Ref.{now}

@@ -1,11 +1,11 @@
 -- `curve::polygon` meets its contract: a turn adds the distance of two neighbours.
-use mathlib.Core.Path.{_∙_, sym, ap}
-use Prim.Native.Nat.{_+_, _-_}
+use mathlib.Core.Path.{_∙_, ap}
+use Prim.Native.Nat.{_-_}
 use Rattle.meaning.specs.Scalar.{plain}
 use Rattle.meaning.specs.Table.{at1}
 use Rattle.meaning.proofs.For.{At, first, next, last}
 use Rattle.plane.specs.Vector.{subV, normV}
-use Rattle.curve.specs.Length.{pointAt, lengthOf}
+use Rattle.curve.specs.Length.{lengthOf}
 use borrow.Author.Needs.{needs}
 use Rattle.curve.proofs.polygon.Statement.{statement}
 use Rattle.curve.proofs.polygon.Tie as tie

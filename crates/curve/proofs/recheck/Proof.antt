@@ -1,5 +1,5 @@
 -- `curve::recheck` meets its contract.
-use mathlib.Core.Path.{_≡_, sym, _∙_}
+use mathlib.Core.Path.{sym, _∙_}
 use Prim.Native.Nat.{_≤_}
 use native.Mathlib.Omega.{arith}
 use Rattle.knots.proofs.Searching.{told-some, told-none}

@@ -1,16 +1,17 @@
 -- `curve::sample_pair` meets its contract: a turn puts in one sample.
-use mathlib.Core.Path.{_≡_, sym, _∙_}
+use mathlib.Core.Path.{_≡_, sym}
 use Prim.Native.Nat.{_≤_, _-_}
 use native.Mathlib.Omega.{arith}
 use native.Mathlib.Numerals.{add-one}
 use denote.Ref.{now}
-use lib.ListN.{length, set, length-set}
+use lib.ListN.{length}
 use lib.Seq.{paste, paste-zero, paste-suc}
 use lib.Ieee.{nan}
+use Rattle.meaning.proofs.Whole.{held}
 use Rattle.knots.specs.Search.{listed}
 use Rattle.knots.proofs.Filling.{length-listed}
 use Rattle.curve.specs.Samples.{sampleAt}
-use Rattle.curve.proofs.Sampled.{held, sample-is}
+use Rattle.curve.proofs.Sampled.{sample-is}
 use borrow.Author.Needs.{needs}
 use Rattle.curve.proofs.sample_pair.Statement.{statement}
 use Rattle.curve.proofs.sample_pair.Tie as tie

@@ -1,13 +1,9 @@
 -- `curve::sample_rising` meets its contract.
-use mathlib.Core.Path.{_≡_, refl, sym, ap, _∙_}
-use Prim.Native.Nat.{ℕ, _+_}
+use mathlib.Core.Path.{refl, sym}
 use native.Mathlib.Nat.{add-zero}
 use denote.Ref.{now}
 use mathlib.Core.List.{[]}
-use lib.ListN.{length}
-use lib.Seq.{paste, paste-zero}
-use lib.Ieee.{Float}
-use Rattle.knots.specs.Search.{listed}
+use lib.Seq.{paste-zero}
 use Rattle.knots.proofs.Filling.{length-listed}
 use Rattle.curve.specs.Samples.{sampleAt}
 use Rattle.curve.proofs.Sampled.{all-rising, none-rising}

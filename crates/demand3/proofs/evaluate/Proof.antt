@@ -1,12 +1,11 @@
 -- `demand3::evaluate` meets its contract: `curve::evaluate` has an answer that its contract allows, and `Promised` has the rest.
-use mathlib.Core.Path.{_≡_, subst}
+use mathlib.Core.Path.{subst}
 use Prim.Native.Nat.{ℕ}
 use denote.Ref.{now}
 use mathlib.Core.List.{_++_}
 use Rattle.curve.specs.Record.{shapeOf, recordRules}
 use Rattle.curve.specs.Answer.{Answer}
 use Rattle.curve.specs.Evaluate.{pointOrders, numbersFor, pointRules}
-use Rattle.demand3.specs.Demand.{Bounded, PointInHull, Published}
 use Rattle.demand3.proofs.Promised.{in-hull, never-refused}
 use borrow.Author.Needs.{needs}
 use Rattle.demand3.proofs.evaluate.Statement.{statement}

@@ -1,5 +1,4 @@
 -- `evaluate::straight` meets its contract.
-use Rattle.plane.specs.View.{view}
 use Rattle.evaluate.proofs.Rooms.{straight-point, straight-more}
 use borrow.Author.Needs.{needs}
 use Rattle.evaluate.proofs.straight.Statement.{statement}

@@ -1,19 +1,11 @@
 -- `knots::uniform_at` meets its contract.
 use borrow.Author.Needs.{needs}
-use Prim.Native.Nat.{ℕ, _^_, _≤_}
 use native.Mathlib.Omega.{arith}
-use lib.Dec.{T, le→leb}
-use lib.IntN.{pos}
-use lib.Ieee.{binary64, inFloat}
 use borrow.Author.Tests.{lt-ltb, le-ltb}
+use Rattle.meaning.proofs.Whole.{held}
 use Rattle.knots.specs.Uniform.{uniformAt}
 use Rattle.knots.proofs.uniform_at.Statement.{statement}
 use Rattle.knots.proofs.uniform_at.Tie as tie
-
--- a double holds each such number
-held : (n : ℕ) → n ≤ 66 → T (inFloat binary64 (pos n))
-unfolding inFloat
-held n h = le→leb n (2 ^ 53) (omega arith)
 
 returns : tie.Need-returns
 unfolding uniformAt
@@ -26,10 +18,10 @@ sub-spans : tie.Need-sub-spans
 sub-spans c = search needs
 
 int-to-float-result : tie.Need-int-to-float-result
-int-to-float-result c = held _ (search needs)
+int-to-float-result c = held _ (omega arith)
 
 int-to-float-result-2 : tie.Need-int-to-float-result-2
-int-to-float-result-2 c = held _ (search needs)
+int-to-float-result-2 c = held _ (omega arith)
 
 returns-2 : tie.Need-returns-2
 unfolding uniformAt

@@ -1,5 +1,4 @@
 -- `number::is_finite` meets its contract.
-use mathlib.Core.Path.{sym}
 use lib.Ieee.{nanBits}
 use Rattle.number.proofs.Compared.{finite-by}
 use Rattle.number.proofs.is_finite.Statement.{statement}

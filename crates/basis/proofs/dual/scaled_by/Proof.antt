@@ -5,7 +5,9 @@ use Rattle.partials.specs.declared.Dv.{Dv}
 use Rattle.partials.specs.Dual.{dual}
 use Rattle.meaning.proofs.For.{At, first, next, last}
 use Rattle.basis.specs.Basis.{Scaling, scaleTurn, scaled}
-use Rattle.basis.proofs.Laws.{small-float, scale-turn}
+use native.Mathlib.Omega.{arith}
+use Rattle.meaning.proofs.Whole.{held}
+use Rattle.basis.proofs.Laws.{scale-turn}
 use borrow.Author.Needs.{needs}
 use Rattle.basis.proofs.dual.scaled_by.Statement.{statement}
 use Rattle.basis.proofs.dual.scaled_by.Tie as tie
@@ -29,7 +31,7 @@ sub-factor : tie.Need-sub-factor Inv-loop μ-loop
 sub-factor c = search needs
 
 int-to-float-factor : tie.Need-int-to-float-factor Inv-loop μ-loop
-int-to-float-factor c = small-float _ (search needs)
+int-to-float-factor c = held _ (omega arith)
 
 add-k : tie.Need-add-k Inv-loop μ-loop
 add-k c = search needs

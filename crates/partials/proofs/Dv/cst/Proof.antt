@@ -1,7 +1,6 @@
 -- `partials::Dv::cst` meets its contract.
 use mathlib.Core.Path.{refl}
 use Rattle.partials.specs.Dual.{cstDv}
-use borrow.Author.Needs.{needs}
 use Rattle.partials.proofs.Dv.cst.Statement.{statement}
 use Rattle.partials.proofs.Dv.cst.Tie as tie
 

@@ -1,6 +1,5 @@
 -- `partials::Dv::is_fine` meets its contract: the flag falls at a partial that is not finite, and stays down.
-use mathlib.Core.Path.{_≡_, refl, sym, ap, _∙_}
-use mathlib.Core.Bool.{Bool, true, false, not, _&&_}
+use mathlib.Core.Bool.{_&&_}
 use mathlib.Core.Logic.{⊎-elim}
 use Prim.Native.Nat.{_-_}
 use lib.ListN.{getD}

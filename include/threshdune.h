@@ -19,7 +19,7 @@ extern "C" {
 
 /* ---- numbers */
 
-/* The double nearest to the root of x; +0.0 at or below 0; an infinity or a NaN as it is. */
+/* The double nearest to the root of x; +0.0 at or below 0, minus infinity too; plus infinity and a NaN as they are. */
 double threshdune_root(double x);
 /* Whether x is neither a NaN nor an infinity. */
 bool threshdune_is_finite(double x);
@@ -27,7 +27,7 @@ bool threshdune_is_finite(double x);
 double threshdune_size(double x);
 /* Whether the size of x is that of y or stands after it in totalOrder. */
 bool threshdune_at_least(double x, double y);
-/* x, or the end of lo to hi that it lies past. */
+/* lo where x is below it, else x; then hi where that is above it. A zero keeps its sign, and a NaN stays. */
 double threshdune_clamp(double x, double lo, double hi);
 
 /* ---- values with partials
@@ -66,7 +66,7 @@ uint64_t threshdune_plane_unit(double ax, double ay, double *out, size_t out_len
 double threshdune_plane_dot(double ax, double ay, double bx, double by);
 double threshdune_plane_norm(double ax, double ay);
 
-/* ---- vectors with partials: x and then y, each as 28 doubles, and the two counts; a missing count reads as 0.
+/* ---- vectors with partials: x and then y, each as a value with partials of 28 doubles, and the two counts; a missing count reads as 0.
  * 14 where `out` has no room for 56 doubles, or `counts` for two; dot and norm answer one value with partials, as above.
  */
 
@@ -94,8 +94,8 @@ uint64_t threshdune_plane_partials_norm(const double *a, size_t a_len, const uin
  * refusal is the result, 0 for none; a refused call writes nothing.
  */
 
-/* The curve of these control points, over the knots where `given` is not 0, else over uniform ones. Writes the control points
- * into `control` and the knots into `knots_out`: 14 where either is too short; 15. */
+/* The curve of these control points, over the knots where `given` is not 0, else over uniform ones; `knots` is not read then.
+ * For n control points writes 2n numbers into `control`, x and y in turn, and n + 4 into `knots_out`: 14 where either is too short; 15. */
 uint64_t threshdune_build_control(const double *coords, size_t coords_len, uint64_t given, const double *knots, size_t knots_len,
                                   double *control, size_t control_len, double *knots_out, size_t knots_out_len);
 /* The point at t and its derivatives up to the order: 2 * (order + 1) numbers, x and y in turn. 12 for t, 13 above order 4, 14, 15. */
@@ -107,7 +107,8 @@ uint64_t threshdune_point_tangent(const double *coords, size_t coords_len, const
 /* The length of the control polygon: one number. 14, 15. */
 uint64_t threshdune_length(const double *coords, size_t coords_len, const double *knots, size_t knots_len, double *out,
                            size_t out_len);
-/* per_span parameters from the start of each rising knot pair on, then the domain's end; count says how many. 13 above 16, 14, 15. */
+/* per_span parameters from the start of each rising knot pair on, then the domain's end; count says how many, 1009 at most. 13 above 16,
+ * 14, 15. */
 uint64_t threshdune_samples(const double *coords, size_t coords_len, const double *knots, size_t knots_len, uint64_t per_span,
                             double *out, size_t out_len, uint64_t *count);
 

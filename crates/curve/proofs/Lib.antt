@@ -4,3 +4,4 @@ pub mod Doors
 pub mod Trusted
 pub mod Assembled
 pub mod Sampled
+pub mod Determined

@@ -87,6 +87,21 @@ uint64_t threshdune_plane_partials_dot(const double *a, size_t a_len, const uint
 uint64_t threshdune_plane_partials_norm(const double *a, size_t a_len, const uint64_t *a_counts, size_t a_counts_len,
                                         double *out, size_t out_len, uint64_t *count);
 
+/* ---- the basis with partials
+ *
+ * The four cubic basis functions that are not zero on a span, at t, with their derivatives. The span is given by the six knots that it reads,
+ * for span i those from knot i - 2 to knot i + 3: w holds six values with partials, one behind the other, 28 doubles to each, and w_counts their
+ * counts; a missing count reads as 0. Nothing is asked of the knots, and any order may be asked for.
+ * Answers twenty values with partials, one behind the other, and their counts: value 4 * k + j is the derivative of order k, 0 to 4, of
+ * function j. Those of orders above the one asked for, and of order 4, are +0.0 without partials. 14 where `out` has no room for 560 doubles,
+ * or `counts` for twenty.
+ */
+#define THRESHDUNE_BASIS 560
+
+uint64_t threshdune_partials_basis(const double *w, size_t w_len, const uint64_t *w_counts, size_t w_counts_len, const double *t,
+                                   size_t t_len, uint64_t t_count, uint64_t order, double *out, size_t out_len,
+                                   uint64_t *counts, size_t counts_len);
+
 /* ---- curves
  *
  * A curve crosses as its control points, x and y in turn, and its knots, of which there are four more than control points. Each
@@ -107,10 +122,34 @@ uint64_t threshdune_point_tangent(const double *coords, size_t coords_len, const
 /* The length of the control polygon: one number. 14, 15. */
 uint64_t threshdune_length(const double *coords, size_t coords_len, const double *knots, size_t knots_len, double *out,
                            size_t out_len);
+/* The first knot and the last: two numbers. 14. */
+uint64_t threshdune_domain(const double *coords, size_t coords_len, const double *knots, size_t knots_len, double *out,
+                           size_t out_len);
 /* per_span parameters from the start of each rising knot pair on, then the domain's end; count says how many, 1009 at most. 13 above 16,
  * 14, 15. */
 uint64_t threshdune_samples(const double *coords, size_t coords_len, const double *knots, size_t knots_len, uint64_t per_span,
                             double *out, size_t out_len, uint64_t *count);
+
+/* ---- curves as records
+ *
+ * A record has room for 66 control points and 70 knots, and two counts that say how many there are. It crosses as the counts and three
+ * slices: the x, the y, the knots. What lies past a slice's end reads as +0.0, and what lies past the room is not read. Each function checks
+ * the record again, whatever its counts say: refusals 2 to 4, 6 to 11; then it answers, or refuses, as its namesake above does.
+ */
+
+uint64_t threshdune_record_evaluate(uint64_t points, uint64_t knot_count, const double *xs, size_t xs_len, const double *ys,
+                                    size_t ys_len, const double *knots, size_t knots_len, double t, uint64_t order, double *out,
+                                    size_t out_len);
+uint64_t threshdune_record_point_tangent(uint64_t points, uint64_t knot_count, const double *xs, size_t xs_len, const double *ys,
+                                         size_t ys_len, const double *knots, size_t knots_len, double t, double *out,
+                                         size_t out_len);
+uint64_t threshdune_record_length(uint64_t points, uint64_t knot_count, const double *xs, size_t xs_len, const double *ys,
+                                  size_t ys_len, const double *knots, size_t knots_len, double *out, size_t out_len);
+uint64_t threshdune_record_domain(uint64_t points, uint64_t knot_count, const double *xs, size_t xs_len, const double *ys,
+                                  size_t ys_len, const double *knots, size_t knots_len, double *out, size_t out_len);
+uint64_t threshdune_record_samples(uint64_t points, uint64_t knot_count, const double *xs, size_t xs_len, const double *ys,
+                                   size_t ys_len, const double *knots, size_t knots_len, uint64_t per_span, double *out,
+                                   size_t out_len, uint64_t *count);
 
 #ifdef __cplusplus
 }

@@ -1,14 +1,13 @@
 -- The rules for control points and knots in slices, from the tests that the build makes one after the other. Assumes nothing.
-use mathlib.Core.Path.{_≡_, refl, sym, ap, _∙_}
+use mathlib.Core.Path.{_≡_, sym, ap, _∙_}
 use mathlib.Core.Bool.{Bool, true, false, not}
 use mathlib.Core.List.{List, [], _∷_, _++_}
-use Prim.Native.Nat.{ℕ, zero, suc, _+_, _-_, _/_, _%_, _≤_}
-use native.Mathlib.Nat.{suc-ne-zero}
+use Prim.Native.Nat.{ℕ, _+_, _/_, _%_, _≤_}
 use native.Mathlib.Omega.{arith}
 use borrow.Author.Tests.{eq-eqb, ne-eqb}
 use lib.ListN.{length, take, drop, replicate, length-replicate}
 use lib.Seq.{take-all, take-at, length-take-le}
-use lib.Dec.{T}
+use lib.Dec.{T, eqb}
 use lib.Ieee.{Float}
 use Rattle.meaning.specs.Scalar.{zero64}
 use Rattle.meaning.specs.Refusals.{Row, row, firstOf}
@@ -17,8 +16,8 @@ use Rattle.knots.proofs.Accepted.{Accepted, accepted}
 use Rattle.knots.proofs.Refused.{row-passed, handles-passed}
 use Rattle.curve.specs.declared.Curve.{Curve}
 use Rattle.curve.specs.Record.{someWild, emptyCurve}
-use Rattle.curve.specs.Build.{storedKnots, sliceRules, storedRules, controlRules, builtBy}
-use Rattle.curve.proofs.Rows.{numbered, row-applies, row-passes, second-decides, first-decides}
+use Rattle.curve.specs.Build.{storedKnots, handleRules, sliceRules, storedRules, controlRules, builtBy}
+use Rattle.curve.proofs.Rows.{numbered, row-applies, row-passes, second-decides, first-decides, both-pass}
 use Rattle.curve.proofs.Trusted.{numbered-knots}
 use Rattle.curve.proofs.Doors.{put-all}
 
@@ -38,42 +37,48 @@ built-refused rules c e h = rw (ne-eqb (firstOf rules) 0 (λ z. h (e ∙ z)))
 pub built-made : (rules : List Row) (c : Curve) → 0 ≡ firstOf rules → c ≡ builtBy rules c
 built-made rules c e = rw (eq-eqb (firstOf rules) 0 (sym e))
 
-module _ (coords : List Float) (given : Bool) (ks : List Float) where
-  pub numbered-slices : T (numbered (sliceRules coords given ks))
-  unfolding sliceRules knotRules
-  numbered-slices = tt
+module _ (coords : List Float) (fit given : Bool) (ks : List Float) where
+  pub numbered-handles : T (numbered (handleRules coords fit given ks))
+  unfolding handleRules knotRules
+  numbered-handles = tt
 
-  pub odd-slices : (length coords % 2 ≡ 0 → ⊥) → 1 ≡ firstOf (sliceRules coords given ks)
-  unfolding sliceRules
-  odd-slices h = sym (row-applies _ _ (ap not (ne-eqb (length coords % 2) 0 h)))
+  pub odd-handles : (length coords % 2 ≡ 0 → ⊥) → 1 ≡ firstOf (handleRules coords fit given ks)
+  unfolding handleRules
+  odd-handles h = sym (row-applies _ _ (ap not (ne-eqb (length coords % 2) 0 h)))
 
   module _ (even : length coords % 2 ≡ 0) where
-    even-slices : firstOf (sliceRules coords given ks) ≡ firstOf (knotRules (length coords / 2) false given ks ++ (row 11 (someWild coords (length coords)) ∷ []))
-    unfolding sliceRules
-    even-slices = row-passes _ _ (ap not (eq-eqb (length coords % 2) 0 even))
+    even-handles : firstOf (handleRules coords fit given ks) ≡ firstOf (knotRules (length coords / 2) fit given ks ++ (row 11 (someWild coords (length coords)) ∷ []))
+    unfolding handleRules
+    even-handles = row-passes _ _ (ap not (eq-eqb (length coords % 2) 0 even))
 
-    pub knots-refused-slices : {m : ℕ} → m ≡ firstOf (knotRules (length coords / 2) false given ks) → (m ≡ 0 → ⊥) → m ≡ firstOf (sliceRules coords given ks)
-    knots-refused-slices e h = e ∙ sym (even-slices ∙ first-decides _ _ (λ z. h (e ∙ z)))
+    pub knots-refused-handles : {m : ℕ} → m ≡ firstOf (knotRules (length coords / 2) fit given ks) → (m ≡ 0 → ⊥) → m ≡ firstOf (handleRules coords fit given ks)
+    knots-refused-handles e h = e ∙ sym (even-handles ∙ first-decides _ _ (λ z. h (e ∙ z)))
 
-    module _ (passed : firstOf (knotRules (length coords / 2) false given ks) ≡ 0) where
-      left : firstOf (sliceRules coords given ks) ≡ firstOf (row 11 (someWild coords (length coords)) ∷ [])
-      left = even-slices ∙ second-decides _ _ (numbered-knots (length coords / 2) false given ks) passed
+    module _ (passed : firstOf (knotRules (length coords / 2) fit given ks) ≡ 0) where
+      left : firstOf (handleRules coords fit given ks) ≡ firstOf (row 11 (someWild coords (length coords)) ∷ [])
+      left = even-handles ∙ second-decides _ _ (numbered-knots (length coords / 2) fit given ks) passed
 
-      pub wild-slices : someWild coords (length coords) ≡ true → 11 ≡ firstOf (sliceRules coords given ks)
-      wild-slices h = sym (left ∙ row-applies _ _ h)
+      pub wild-handles : someWild coords (length coords) ≡ true → 11 ≡ firstOf (handleRules coords fit given ks)
+      wild-handles h = sym (left ∙ row-applies _ _ h)
 
-      pub tame-slices : someWild coords (length coords) ≡ false → 0 ≡ firstOf (sliceRules coords given ks)
+      pub tame-handles : someWild coords (length coords) ≡ false → 0 ≡ firstOf (handleRules coords fit given ks)
       unfolding firstOf
-      tame-slices h = sym (left ∙ row-passes (row 11 (someWild coords (length coords))) [] h)
+      tame-handles h = sym (left ∙ row-passes (row 11 (someWild coords (length coords))) [] h)
 
-  -- what passes the rules of slices passes those of its knots
-  pub slices-passed : firstOf (sliceRules coords given ks) ≡ 0 → firstOf (knotRules (length coords / 2) false given ks) ≡ 0
-  slices-passed h = by (length coords % 2) refl (firstOf (knotRules (length coords / 2) false given ks)) refl
-    where
-      by : (p : ℕ) → length coords % 2 ≡ p → (m : ℕ) → m ≡ firstOf (knotRules (length coords / 2) false given ks) → firstOf (knotRules (length coords / 2) false given ks) ≡ 0
-      by zero p zero e = sym e
-      by zero p (suc m) e = absurd (suc-ne-zero m (knots-refused-slices p e (suc-ne-zero m) ∙ h))
-      by (suc q) p m e = absurd (suc-ne-zero 0 (odd-slices (λ z. suc-ne-zero q (sym p ∙ z)) ∙ h))
+  -- what passes the rules of handles passes those of its knots, and its numbers are finite
+  handles-parts : firstOf (handleRules coords fit given ks) ≡ 0
+      → (firstOf (knotRules (length coords / 2) fit given ks) ≡ 0) × (firstOf (row 11 (someWild coords (length coords)) ∷ []) ≡ 0)
+  unfolding handleRules firstOf
+  handles-parts h =
+      both-pass (knotRules (length coords / 2) fit given ks) _ (numbered-knots (length coords / 2) fit given ks)
+      (row-passed (not (eqb (length coords % 2) 0)) 0 _ h .1)
+
+  pub handles-passed-knots : firstOf (handleRules coords fit given ks) ≡ 0 → firstOf (knotRules (length coords / 2) fit given ks) ≡ 0
+  handles-passed-knots h = handles-parts h .0
+
+  pub handles-tame : firstOf (handleRules coords fit given ks) ≡ 0 → someWild coords (length coords) ≡ false
+  unfolding firstOf
+  handles-tame h = row-passed (someWild coords (length coords)) 10 0 (handles-parts h .1) .0
 
 -- ---- and the stored knots
 
@@ -85,7 +90,7 @@ module _ (coords : List Float) (given : Bool) (ks : List Float) where
   module _ (passed : firstOf (sliceRules coords given ks) ≡ 0) where
     knots-left : firstOf (controlRules coords given ks) ≡ firstOf (storedRules coords given ks)
     unfolding controlRules
-    knots-left = second-decides _ _ (numbered-slices coords given ks) passed
+    knots-left = second-decides _ _ (numbered-handles coords false given ks) passed
 
     pub control-wild : someWild (storedKnots (length coords / 2) given ks) 70 ≡ true → 15 ≡ firstOf (controlRules coords given ks)
     control-wild h = sym (knots-left ∙ row-applies (row 15 (someWild (storedKnots (length coords / 2) given ks) 70)) [] h)
@@ -96,16 +101,17 @@ module _ (coords : List Float) (given : Bool) (ks : List Float) where
 
 -- ---- knots in slices that the rules let through are accepted in their room, too
 
+-- the knots of a list that is as long as it should be stand in front
+pub stored-front : (ks : List Float) (n : ℕ) → length ks ≡ n + 4 → n ≤ 66 → take (n + 4) (storedKnots n true ks) ≡ ks
+stored-front ks n l r =
+    let zeros = replicate 70 zero64 in
+    let z : length zeros ≡ 70 = length-replicate 70 zero64 in
+    ap (take (n + 4)) (put-all ks (n + 4) zeros (omega arith) (omega arith))
+    ∙ take-at (take (n + 4) ks) (drop (0 + (n + 4)) zeros) (n + 4) (length-take-le (n + 4) ks (omega arith))
+    ∙ take-all (n + 4) ks (omega arith)
+
 pub slices-trusted : (coords ks : List Float) → firstOf (sliceRules coords true ks) ≡ 0
     → Accepted (take (length coords / 2 + 4) (storedKnots (length coords / 2) true ks)) (length coords / 2)
 slices-trusted coords ks h =
-    let n = length coords / 2 in
-    let a = accepted ks n (slices-passed coords true ks h) in
-    let l = a .sound .long in
-    let zeros = replicate 70 zero64 in
-    let z : length zeros ≡ 70 = length-replicate 70 zero64 in
-    let front : take (n + 4) (storedKnots n true ks) ≡ ks =
-    ap (take (n + 4)) (put-all ks (n + 4) zeros (omega arith) (omega (arith, a .room)))
-    ∙ take-at (take (n + 4) ks) (drop (0 + (n + 4)) zeros) (n + 4) (length-take-le (n + 4) ks (omega arith))
-    ∙ take-all (n + 4) ks (omega arith) in
-    rw front a
+    let a = accepted ks (length coords / 2) (handles-passed-knots coords false true ks h) in
+    rw (stored-front ks (length coords / 2) (a .sound .long) (a .room)) a

@@ -3,5 +3,6 @@ pub mod Rows
 pub mod Doors
 pub mod Trusted
 pub mod Assembled
+pub mod Rechecked
 pub mod Sampled
 pub mod Determined

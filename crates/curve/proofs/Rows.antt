@@ -3,6 +3,7 @@ use mathlib.Core.Path.{_≡_, refl, sym, _∙_}
 use mathlib.Core.Bool.{Bool, true, false, _&&_}
 use mathlib.Core.List.{List, [], _∷_, _++_}
 use Prim.Native.Nat.{ℕ, zero, suc}
+use native.Mathlib.Nat.{suc-ne-zero}
 use native.Mathlib.Omega.{arith}
 use lib.Dec.{T}
 use Rattle.meaning.specs.Refusals.{Row, firstOf}
@@ -54,3 +55,11 @@ first-decides (r ∷ rs) b e =
     by-two (r .applies)
     (λ p. row-applies r (rs ++ b) p ∙ sym (row-applies r rs p))
     (λ p. row-passes r (rs ++ b) p ∙ first-decides rs b (λ q. e (row-passes r rs p ∙ q)) ∙ sym (row-passes r rs p))
+
+-- nothing in both applies: nothing in either does
+pub both-pass : (a b : List Row) → T (numbered a) → firstOf (a ++ b) ≡ 0 → (firstOf a ≡ 0) × (firstOf b ≡ 0)
+both-pass a b h e = by (firstOf a) refl
+  where
+    by : (m : ℕ) → firstOf a ≡ m → (firstOf a ≡ 0) × (firstOf b ≡ 0)
+    by zero q = (q, sym (second-decides a b h q) ∙ e)
+    by (suc m) q = absurd (suc-ne-zero m (sym q ∙ sym (first-decides a b (λ z. suc-ne-zero m (sym q ∙ z))) ∙ e))

@@ -34,18 +34,22 @@ controlCurve coords given ks =
 abbrev pub sliceShape : List Float → List Float → Shape Float
 sliceShape coords ks = shapeOf (controlCurve coords true ks)
 
--- the rules for control points x, y in turn and for knots, if any are given
-unfoldable pub sliceRules : List Float → Bool → List Float → List Row
-sliceRules coords given ks =
+-- the rules for handles x, y in turn, fit points or control points, and for knots, if any are given
+unfoldable pub handleRules : List Float → Bool → Bool → List Float → List Row
+handleRules coords fit given ks =
     row 1 (not (eqb (length coords % 2) 0))
-    ∷ (knotRules (length coords / 2) false given ks ++ (row 11 (someWild coords (length coords)) ∷ []))
+    ∷ (knotRules (length coords / 2) fit given ks ++ (row 11 (someWild coords (length coords)) ∷ []))
+
+-- those for control points
+abbrev pub sliceRules : List Float → Bool → List Float → List Row
+sliceRules coords given ks = handleRules coords false given ks
 
 -- Refusal 15 is for a stored number that is not finite: rule 11 has judged the coordinates, so the knots are left.
 abbrev pub storedRules : List Float → Bool → List Float → List Row
 storedRules coords given ks = row 15 (someWild (storedKnots (length coords / 2) given ks) 70) ∷ []
 
 unfoldable pub controlRules : List Float → Bool → List Float → List Row
-unfolding sliceRules
+unfolding handleRules
 controlRules coords given ks = sliceRules coords given ks ++ storedRules coords given ks
 
 -- what is built: the curve, or where a rule applies the empty curve

@@ -18,7 +18,7 @@ ghost use Rattle.curve.specs.Answer.{Answer};
 ghost use Rattle.curve.specs.Evaluate.{pointOrders, numbersFor, pointRules, tangentNumbers, tangentRules};
 ghost use Rattle.curve.specs.Length.{lengthOf, lengthRules, domainOf, domainRules};
 ghost use Rattle.curve.specs.Samples.{sampleAt, risingSamples, pairSamples, samplesOf, sampleRules, AnswerCounted};
-ghost use Rattle.curve.specs.Build.{everyOther, storedKnots, controlCurve, sliceShape, sliceRules, controlRules, intoRules, AnswerBuild, knotsBuilt, builtBy};
+ghost use Rattle.curve.specs.Build.{everyOther, storedKnots, controlCurve, sliceShape, handleRules, sliceRules, controlRules, intoRules, AnswerBuild, knotsBuilt, builtBy};
 use knots::Refusal;
 use plane::P2;
 
@@ -40,11 +40,13 @@ pub struct Built {
 // ---- the record
 
 // The first of the first k numbers that is not finite, or k.
-fn first_wild(a: &[f64], k: usize) -> usize
-    requires { ⌜ k ≤ length (now a) ⌝ }
+pub fn first_wild(a: &[f64], k: usize) -> usize
     ensures { λ r. ⌜ r ≡ seek 0 k (λ i. not (finite (at1 plain (now (a .entry)) i))) ⌝ }
 {
     for i in 0..k {
+        if i >= a.len() {
+            return i;
+        }
         if !number::is_finite(a[i]) {
             return i;
         }
@@ -76,7 +78,7 @@ fn recheck_knots(n: usize, u: &[f64], k: usize) -> Refusal
 }
 
 // Why a record is refused by the rules 2 to 11, if it is.
-fn recheck(c: Curve) -> Refusal
+pub fn recheck(c: Curve) -> Refusal
     ensures { λ r. ⌜ r .number ≡ firstOf (recordRules c) ⌝ }
 {
     let n = c.points;
@@ -121,7 +123,7 @@ fn stored(n: usize, given: bool, knots: &[f64]) -> [f64; 70]
 }
 
 // A refusal, with the empty curve.
-fn refused(number: u64) -> Built
+pub fn refused(number: u64) -> Built
     ensures { λ r. ⌜ r ≡ record { refusal = record { number = number }; curve = emptyCurve } ⌝ }
 {
     let curve = empty();
@@ -131,22 +133,33 @@ fn refused(number: u64) -> Built
     }
 }
 
+// Why handles x, y in turn, fit points or control points, are refused by the rules 1 to 11, if they are.
+pub fn refused_handles(coords: &[f64], fit: bool, given: bool, knots: &[f64]) -> Refusal
+    ensures { λ r. ⌜ r .number ≡ firstOf (handleRules (now (coords .entry)) fit given (now (knots .entry))) ⌝ }
+{
+    if coords.len() % 2 != 0 {
+        return Refusal { number: 1 };
+    }
+    let r = knots::check(coords.len() / 2, fit, given, knots);
+    if r.number != 0 {
+        return r;
+    }
+    if first_wild(coords, coords.len()) < coords.len() {
+        return Refusal { number: 11 };
+    }
+    Refusal { number: 0 }
+}
+
 // The curve of control points x, y in turn, by the rules 1 to 11.
 fn assemble(coords: &[f64], given: bool, knots: &[f64]) -> Built
     ensures { λ r. ⌜ r .refusal .number ≡ firstOf (sliceRules (now (coords .entry)) given (now (knots .entry))) ⌝ }
     ensures { λ r. ⌜ r .curve ≡ builtBy (sliceRules (now (coords .entry)) given (now (knots .entry))) (controlCurve (now (coords .entry)) given (now (knots .entry))) ⌝ }
 {
-    let n = coords.len() / 2;
-    if coords.len() % 2 != 0 {
-        return refused(1);
-    }
-    let r = knots::check(n, false, given, knots);
+    let r = refused_handles(coords, false, given, knots);
     if r.number != 0 {
         return refused(r.number);
     }
-    if first_wild(coords, coords.len()) < coords.len() {
-        return refused(11);
-    }
+    let n = coords.len() / 2;
     let xs = every_other(coords, n, 0);
     let ys = every_other(coords, n, 1);
     let u = stored(n, given, knots);

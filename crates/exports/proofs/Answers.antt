@@ -3,12 +3,12 @@ use mathlib.Core.Path.{_≡_}
 use mathlib.Core.List.{List, [], _∷_}
 use Prim.Native.Nat.{ℕ, _≤_, _<_}
 use borrow.Author.Tests.{lt-ltb, le-ltb}
-use lib.ListN.{length, set}
+use lib.ListN.{length}
 use lib.Seq.{paste}
 use lib.Ieee.{Float}
 use Rattle.partials.specs.declared.Dv.{Dv}
 use Rattle.plane.specs.Vector.{Vector}
-use Rattle.exports.specs.Crossing.{Answered, AnsweredV, AnsweredP}
+use Rattle.exports.specs.Crossing.{Answered, AnsweredTwo, AnsweredP}
 
 module _ (d : Dv) (out : List Float) (n : ℕ) where
   pub short : length out < 28 → Answered d out n 14 out n
@@ -17,16 +17,15 @@ module _ (d : Dv) (out : List Float) (n : ℕ) where
   pub given : {out′ : List Float} {n′ : ℕ} → 28 ≤ length out → out′ ≡ paste out 0 (d .v ∷ d .g) 28 → n′ ≡ d .n → Answered d out n 0 out′ n′
   given h p q = let e = le-ltb _ _ h in record { number = rw e; written = rw e p; counted = rw e q }
 
-module _ (a : Vector Dv) (out : List Float) (ns : List ℕ) where
-  pub short-out : length out < 56 → AnsweredV a out ns 14 out ns
+module _ (k m : ℕ) (numbers : List Float) (counts : List ℕ) (out : List Float) (ns : List ℕ) where
+  pub short-out : length out < k → AnsweredTwo k m numbers counts out ns 14 out ns
   short-out h = let e = lt-ltb _ _ h in record { number = rw e; written = rw e; counted = rw e }
 
-  pub short-counts : 56 ≤ length out → length ns < 2 → AnsweredV a out ns 14 out ns
+  pub short-counts : k ≤ length out → length ns < m → AnsweredTwo k m numbers counts out ns 14 out ns
   short-counts g h = let e = le-ltb _ _ g in let f = lt-ltb _ _ h in record { number = rw (e, f); written = rw (e, f); counted = rw (e, f) }
 
-  pub given-v : {out′ : List Float} {ns′ : List ℕ} → 56 ≤ length out → 2 ≤ length ns
-      → out′ ≡ paste (paste out 0 (a .x .v ∷ a .x .g) 28) 28 (a .y .v ∷ a .y .g) 28 → ns′ ≡ set (set ns 0 (a .x .n)) 1 (a .y .n) → AnsweredV a out ns 0 out′ ns′
-  given-v g h p q = let e = le-ltb _ _ g in let f = le-ltb _ _ h in record { number = rw (e, f); written = rw (e, f) p; counted = rw (e, f) q }
+  pub given-two : {out′ : List Float} {ns′ : List ℕ} → k ≤ length out → m ≤ length ns → out′ ≡ numbers → ns′ ≡ counts → AnsweredTwo k m numbers counts out ns 0 out′ ns′
+  given-two g h p q = let e = le-ltb _ _ g in let f = le-ltb _ _ h in record { number = rw (e, f); written = rw (e, f) p; counted = rw (e, f) q }
 
 module _ (a : Vector Float) (out : List Float) where
   pub short-p : length out < 2 → AnsweredP a out 14 out

@@ -2,7 +2,7 @@
 ghost use mathlib.Core.Path.{_≡_};
 ghost use mathlib.Core.Bool.{true};
 ghost use mathlib.Core.List.{[], _∷_, _++_};
-ghost use Prim.Native.Nat.{_+_, _/_, _≤_};
+ghost use Prim.Native.Nat.{_+_, _/_, _≤_, min};
 ghost use lib.ListN.{length, getD};
 ghost use lib.Seq.{paste};
 ghost use lib.Ieee.Scale.{finite};
@@ -12,12 +12,16 @@ ghost use Rattle.meaning.specs.Scalar.{plain};
 ghost use Rattle.partials.specs.Dual.{dual, varDv, addDv, subDv, mulDv, divDv, negDv, rootDv, overshootDv, fineDv};
 ghost use Rattle.plane.specs.Vector.{addV, subV, scaleV, dotV, normV, unitV};
 ghost use Rattle.plane.specs.View.{view, viewD};
+ghost use Rattle.buffer.specs.Pasted.{pasted};
+ghost use Rattle.basis.specs.Basis.{derivativesOf};
+ghost use Rattle.curve.specs.Record.{shapeOf, recordRules};
 ghost use Rattle.curve.specs.Answer.{Answer};
 ghost use Rattle.curve.specs.Build.{storedKnots, knotsBuilt, sliceShape, sliceRules, intoRules, AnswerBuild};
 ghost use Rattle.curve.specs.Evaluate.{pointOrders, numbersFor, pointRules, tangentNumbers, tangentRules};
-ghost use Rattle.curve.specs.Length.{lengthOf, lengthRules};
+ghost use Rattle.curve.specs.Length.{lengthOf, lengthRules, domainOf, domainRules};
 ghost use Rattle.curve.specs.Samples.{samplesOf, sampleRules, AnswerCounted};
-ghost use Rattle.exports.specs.Crossing.{isGiven, entryOf, readDv, readV, Answered, AnsweredV, AnsweredP};
+ghost use Rattle.exports.specs.Crossing.{isGiven, entryOf, readDv, readV, readSix, readCurve, putValues, putCounts, Answered, AnsweredV, AnsweredP, AnsweredB};
+use curve::Curve;
 use partials::Dv;
 use plane::P2;
 use plane::P2d;
@@ -87,7 +91,7 @@ fn count_at(ns: &[u64], i: usize) -> usize
 
 // The value with n partials that stands in s from index at on.
 fn read(s: &[f64], at: usize, n: usize) -> Dv
-    requires { ⌜ at ≤ 28 ⌝ }
+    requires { ⌜ at ≤ 140 ⌝ }
     ensures { λ r. ⌜ r ≡ readDv (now (s .entry)) at n ⌝ }
 {
     let mut g = [0.0; 27];
@@ -108,6 +112,49 @@ fn read_vector(s: &[f64], ns: &[u64]) -> P2d
     let x = read(s, 0, count_at(ns, 0));
     let y = read(s, 28, count_at(ns, 1));
     P2d { x, y }
+}
+
+// The six values with partials that stand in s, one behind the other.
+fn read_six(s: &[f64], ns: &[u64]) -> [Dv; 6]
+    ensures { λ r. ⌜ r ≡ readSix (now (s .entry)) (now (ns .entry)) ⌝ }
+{
+    let zero = Dv::cst(0.0);
+    let mut w = [zero; 6];
+    for i in 0..6 {
+        let next = read(s, 28 * i, count_at(ns, i));
+        w[i] = next;
+    }
+    w
+}
+
+// Puts the numbers of s into room, as many as it takes.
+fn fill(s: &[f64], room: &mut [f64])
+    ensures { λ _. ⌜ now (room .exit) ≡ pasted (now (s .entry)) (min (length (now (s .entry))) (length (now (room .entry)))) (now (room .entry)) 0 ⌝ }
+{
+    if s.len() <= room.len() {
+        buffer::put(s, s.len(), room, 0);
+        return;
+    }
+    buffer::put(s, room.len(), room, 0);
+}
+
+// The record with these counts and numbers, sound or not.
+fn read_curve(points: u64, knot_count: u64, xs: &[f64], ys: &[f64], knots: &[f64]) -> Curve
+    ensures { λ r. ⌜ r ≡ readCurve points «knot_count» (now (xs .entry)) (now (ys .entry)) (now (knots .entry)) ⌝ }
+{
+    let mut x = [0.0; 66];
+    fill(xs, &mut x);
+    let mut y = [0.0; 66];
+    fill(ys, &mut y);
+    let mut u = [0.0; 70];
+    fill(knots, &mut u);
+    Curve {
+        points: points as usize,
+        knot_count: knot_count as usize,
+        xs: x,
+        ys: y,
+        knots: u,
+    }
 }
 
 // Puts the numbers of d into out from index at on.
@@ -158,6 +205,32 @@ fn answer_pair(a: P2, out: &mut [f64]) -> u64
     }
     out[0] = a.x;
     out[1] = a.y;
+    0
+}
+
+// Puts the values of five rows into out, one behind the other, and their counts into counts.
+fn write_rows(rows: [[Dv; 4]; 5], out: &mut [f64], counts: &mut [u64])
+    requires { ⌜ 560 ≤ length (now out) ⌝ ∗ ⌜ 20 ≤ length (now counts) ⌝ }
+    ensures { λ _. ⌜ now (out .exit) ≡ putValues rows (now (out .entry)) ⌝ ∗ ⌜ now (counts .exit) ≡ putCounts rows (now (counts .entry)) ⌝ }
+{
+    for i in 0..20 {
+        let d = rows[i / 4][i % 4];
+        write(d, out, 28 * i);
+        counts[i] = d.n as u64;
+    }
+}
+
+// Answers the orders of a basis: 14 where out or counts has no room for them.
+fn answer_rows(rows: [[Dv; 4]; 5], out: &mut [f64], counts: &mut [u64]) -> u64
+    ensures { λ r. ⌜ AnsweredB rows (now (out .entry)) (now (counts .entry)) r (now (out .exit)) (now (counts .exit)) ⌝ }
+{
+    if out.len() < 560 {
+        return 14;
+    }
+    if counts.len() < 20 {
+        return 14;
+    }
+    write_rows(rows, out, counts);
     0
 }
 
@@ -454,6 +527,27 @@ pub extern "C" fn threshdune_plane_partials_norm(
     answer(x.norm(), out, count)
 }
 
+// ---- the basis with partials
+
+// The four basis functions of the span whose six knots are w, at t, with their derivatives up to the order.
+#[no_mangle]
+pub extern "C" fn threshdune_partials_basis(
+    w: &[f64],
+    w_counts: &[u64],
+    t: &[f64],
+    t_count: u64,
+    order: u64,
+    out: &mut [f64],
+    counts: &mut [u64],
+) -> u64
+    ensures { λ r. ⌜ AnsweredB (derivativesOf dual (readSix (now (w .entry)) (now («w_counts» .entry))) 2 (readDv (now (t .entry)) 0 «t_count») order) (now (out .entry)) (now (counts .entry)) r (now (out .exit)) (now (counts .exit)) ⌝ }
+{
+    let six = read_six(w, w_counts);
+    let x = read(t, 0, t_count as usize);
+    let rows = basis::dual::basis(six, x, order as usize);
+    answer_rows(rows, out, counts)
+}
+
 // ---- curves
 
 // The curve of these control points, over the knots where given is not 0, else over uniform ones.
@@ -509,6 +603,15 @@ pub extern "C" fn threshdune_length(coords: &[f64], knots: &[f64], out: &mut [f6
     r.number
 }
 
+// The first knot and the last.
+#[no_mangle]
+pub extern "C" fn threshdune_domain(coords: &[f64], knots: &[f64], out: &mut [f64]) -> u64
+    ensures { λ r. ⌜ Answer (sliceRules (now (coords .entry)) true (now (knots .entry)) ++ domainRules (now (out .entry))) (domainOf (sliceShape (now (coords .entry)) (now (knots .entry)))) 2 (now (out .entry)) r (now (out .exit)) ⌝ }
+{
+    let r = curve::domain_slices(coords, knots, out);
+    r.number
+}
+
 // per_span parameters from the start of each rising knot pair on, then the domain's end.
 #[no_mangle]
 pub extern "C" fn threshdune_samples(
@@ -521,5 +624,97 @@ pub extern "C" fn threshdune_samples(
     ensures { λ r. ⌜ AnswerCounted (sliceRules (now (coords .entry)) true (now (knots .entry)) ++ sampleRules (sliceShape (now (coords .entry)) (now (knots .entry))) «per_span» (now (out .entry))) (samplesOf (sliceShape (now (coords .entry)) (now (knots .entry))) «per_span») (now (out .entry)) (now (count .entry)) r (now (out .exit)) (now (count .exit)) ⌝ }
 {
     let r = curve::samples_slices(coords, knots, per_span as usize, out, count);
+    r.number
+}
+
+// ---- curves as records: two counts and three rooms, checked again like any other
+
+// The point at t and its derivatives up to the order.
+#[no_mangle]
+pub extern "C" fn threshdune_record_evaluate(
+    points: u64,
+    knot_count: u64,
+    xs: &[f64],
+    ys: &[f64],
+    knots: &[f64],
+    t: f64,
+    order: u64,
+    out: &mut [f64],
+) -> u64
+    ensures { λ r. ⌜ Answer (recordRules (readCurve points «knot_count» (now (xs .entry)) (now (ys .entry)) (now (knots .entry))) ++ pointRules (shapeOf (readCurve points «knot_count» (now (xs .entry)) (now (ys .entry)) (now (knots .entry)))) t order (now (out .entry))) (pointOrders (shapeOf (readCurve points «knot_count» (now (xs .entry)) (now (ys .entry)) (now (knots .entry)))) t order) (numbersFor order) (now (out .entry)) r (now (out .exit)) ⌝ }
+{
+    let c = read_curve(points, knot_count, xs, ys, knots);
+    let r = curve::evaluate(c, t, order as usize, out);
+    r.number
+}
+
+// The point at t and the unit tangent.
+#[no_mangle]
+pub extern "C" fn threshdune_record_point_tangent(
+    points: u64,
+    knot_count: u64,
+    xs: &[f64],
+    ys: &[f64],
+    knots: &[f64],
+    t: f64,
+    out: &mut [f64],
+) -> u64
+    ensures { λ r. ⌜ Answer (recordRules (readCurve points «knot_count» (now (xs .entry)) (now (ys .entry)) (now (knots .entry))) ++ tangentRules (shapeOf (readCurve points «knot_count» (now (xs .entry)) (now (ys .entry)) (now (knots .entry)))) t (now (out .entry))) (tangentNumbers (shapeOf (readCurve points «knot_count» (now (xs .entry)) (now (ys .entry)) (now (knots .entry)))) t) 4 (now (out .entry)) r (now (out .exit)) ⌝ }
+{
+    let c = read_curve(points, knot_count, xs, ys, knots);
+    let r = curve::point_tangent(c, t, out);
+    r.number
+}
+
+// The length of the control polygon.
+#[no_mangle]
+pub extern "C" fn threshdune_record_length(
+    points: u64,
+    knot_count: u64,
+    xs: &[f64],
+    ys: &[f64],
+    knots: &[f64],
+    out: &mut [f64],
+) -> u64
+    ensures { λ r. ⌜ Answer (recordRules (readCurve points «knot_count» (now (xs .entry)) (now (ys .entry)) (now (knots .entry))) ++ lengthRules (shapeOf (readCurve points «knot_count» (now (xs .entry)) (now (ys .entry)) (now (knots .entry)))) (now (out .entry))) (lengthOf plain (shapeOf (readCurve points «knot_count» (now (xs .entry)) (now (ys .entry)) (now (knots .entry)))) ∷ []) 1 (now (out .entry)) r (now (out .exit)) ⌝ }
+{
+    let c = read_curve(points, knot_count, xs, ys, knots);
+    let r = curve::length(c, out);
+    r.number
+}
+
+// The first knot and the last.
+#[no_mangle]
+pub extern "C" fn threshdune_record_domain(
+    points: u64,
+    knot_count: u64,
+    xs: &[f64],
+    ys: &[f64],
+    knots: &[f64],
+    out: &mut [f64],
+) -> u64
+    ensures { λ r. ⌜ Answer (recordRules (readCurve points «knot_count» (now (xs .entry)) (now (ys .entry)) (now (knots .entry))) ++ domainRules (now (out .entry))) (domainOf (shapeOf (readCurve points «knot_count» (now (xs .entry)) (now (ys .entry)) (now (knots .entry))))) 2 (now (out .entry)) r (now (out .exit)) ⌝ }
+{
+    let c = read_curve(points, knot_count, xs, ys, knots);
+    let r = curve::domain(c, out);
+    r.number
+}
+
+// per_span parameters from the start of each rising knot pair on, then the domain's end.
+#[no_mangle]
+pub extern "C" fn threshdune_record_samples(
+    points: u64,
+    knot_count: u64,
+    xs: &[f64],
+    ys: &[f64],
+    knots: &[f64],
+    per_span: u64,
+    out: &mut [f64],
+    count: &mut u64,
+) -> u64
+    ensures { λ r. ⌜ AnswerCounted (recordRules (readCurve points «knot_count» (now (xs .entry)) (now (ys .entry)) (now (knots .entry))) ++ sampleRules (shapeOf (readCurve points «knot_count» (now (xs .entry)) (now (ys .entry)) (now (knots .entry)))) «per_span» (now (out .entry))) (samplesOf (shapeOf (readCurve points «knot_count» (now (xs .entry)) (now (ys .entry)) (now (knots .entry)))) «per_span») (now (out .entry)) (now (count .entry)) r (now (out .exit)) (now (count .exit)) ⌝ }
+{
+    let c = read_curve(points, knot_count, xs, ys, knots);
+    let r = curve::samples(c, per_span as usize, out, count);
     r.number
 }

@@ -27,7 +27,7 @@ same-by : (i r : ℕ) (b : Bool) → eqb i r ≡ b → (i ≡ r) ⊎ (i ≡ r �
 same-by i r true e = inl (eqb-true i r e)
 same-by i r false e = inr (eqb-false i r e)
 
-same : (i r : ℕ) → (i ≡ r) ⊎ (i ≡ r → ⊥)
+pub same : (i r : ℕ) → (i ≡ r) ⊎ (i ≡ r → ⊥)
 same i r = same-by i r (eqb i r) refl
 
 module _ {A : Type 0} where
@@ -185,6 +185,23 @@ module _ {A : Type 0} where
   pub swapped-shaped : (M : List (List A)) (m s i j : ℕ) → i < m → j < m → Shaped m s M → Shaped m s (swapped M i j)
   unfolding swapped
   swapped-shaped M m s i j h g sh = shaped-set j (getD M i []) (shaped-set i (getD M j []) sh h (sh .each j g)) g (sh .each i h)
+
+  -- ---- the rows once two of them are exchanged
+  module _ (M : List (List A)) (i j : ℕ) (h : i < length M) (g : j < length M) where
+    pub swapped-second : getD (swapped M i j) j [] ≡ getD M i []
+    unfolding swapped
+    swapped-second = getD-set-same (set M i (getD M j [])) j (getD M i []) [] (omega (arith, length-set M i (getD M j [])))
+
+    pub swapped-first : getD (swapped M i j) i [] ≡ getD M j []
+    unfolding swapped
+    swapped-first = ⊎-elim
+        (λ (e : i ≡ j). ap (λ (k : ℕ). getD (swapped M i j) k []) e ∙ swapped-second ∙ ap (λ (k : ℕ). getD M k []) e)
+        (λ (n : i ≡ j → ⊥). getD-set-other (set M i (getD M j [])) j i (getD M i []) [] n ∙ getD-set-same M i (getD M j []) [] h)
+        (same i j)
+
+    pub swapped-other : (r : ℕ) → (r ≡ i → ⊥) → (r ≡ j → ⊥) → getD (swapped M i j) r [] ≡ getD M r []
+    unfolding swapped
+    swapped-other r p q = getD-set-other (set M i (getD M j [])) j r (getD M i []) [] q ∙ getD-set-other M i r (getD M j []) [] p
 
   -- a row exchanged with itself
   pub swapped-same : (M : List (List A)) (i : ℕ) → swapped M i i ≡ M

@@ -1,9 +1,10 @@
 -- A list made index by index, a list that a loop rewrites from the front, and a test of every index. Assumes nothing.
 use mathlib.Core.Path.{_≡_, refl, sym, ap, _∙_, subst}
-use mathlib.Core.Bool.{Bool, true, false, not, _&&_, _||_, cond}
+use mathlib.Core.Bool.{Bool, true, false, not, _&&_, _||_, cond, true≢false}
+use mathlib.Core.Logic.{inl, inr}
 use mathlib.Core.List.{List, [], _∷_, _++_}
 use Prim.Native.Nat.{ℕ, zero, suc, _+_, _*_, _≤_, _<_, suc-le-suc}
-use native.Mathlib.Nat.{le-of-suc-le-suc, not-suc-le-zero, suc-add, zero-add, suc-inj, suc-ne-zero, add-suc, add-zero, mul-le-mul-right, suc-mul, zero-lt-suc}
+use native.Mathlib.Nat.{le-of-suc-le-suc, not-suc-le-zero, suc-add, zero-add, suc-inj, suc-ne-zero, add-suc, add-zero, mul-le-mul-right, suc-mul, zero-lt-suc, eq-or-lt-of-le}
 use native.Mathlib.Omega.{arith}
 use native.Mathlib.Numerals.{add-one}
 use lib.ListN.{length, getD, set, take, drop, replicate}
@@ -98,6 +99,23 @@ pub allBelow-true : (n : ℕ) (p : ℕ → Bool) → ((i : ℕ) → i < n → p 
 unfolding allBelow
 allBelow-true zero p h = refl
 allBelow-true (suc n) p h = ap (λ (b : Bool). b && p n) (allBelow-true n p (λ i l. h i (omega arith))) ∙ h n (omega arith)
+
+pub no : {A : Type 0} → true ≡ false → A
+no h = absurd (true≢false h)
+
+pub and-left : (a b : Bool) → (a && b) ≡ true → a ≡ true
+and-left true b h = refl
+and-left false b h = h
+
+pub and-right : (a b : Bool) → (a && b) ≡ true → b ≡ true
+and-right true b h = h
+and-right false b h = no (sym h)
+
+pub allBelow-at : (n : ℕ) (p : ℕ → Bool) → allBelow n p ≡ true → (i : ℕ) → i < n → p i ≡ true
+unfolding allBelow
+allBelow-at zero p h i l = absurd (not-suc-le-zero l)
+allBelow-at (suc n) p h i l =
+    elim (eq-or-lt-of-le (le-of-suc-le-suc l)) [ inl e ↦ ap p e ∙ and-right (allBelow n p) (p n) h | inr g ↦ allBelow-at n p (and-left (allBelow n p) (p n) h) i g ]
 
 -- one index more is tested: a flag that a turn joins with its test, and one that a turn raises where its test fails
 pub allBelow-next : (p : ℕ → Bool) (k : ℕ) {old test new : Bool} → old ≡ allBelow k p → test ≡ p k → new ≡ (old && test) → new ≡ allBelow (k + 1) p

@@ -23,7 +23,7 @@ module _ {A : Type 0} (o : Ops A) (n col : ℕ) (f : A) (p t : List A) where
   unfolding subtracted
   sub-length = length-tab (length t) (lessAt o n col f p t)
 
-  sub-at : (k : ℕ) (d : A) → k < length t → getD (subtracted o n col f p t) k d ≡ lessAt o n col f p t k
+  pub sub-at : (k : ℕ) (d : A) → k < length t → getD (subtracted o n col f p t) k d ≡ lessAt o n col f p t k
   unfolding subtracted
   sub-at k d h = getD-tab (length t) (lessAt o n col f p t) k d h
 
@@ -66,15 +66,15 @@ module _ {A : Type 0} (o : Ops A) (n col : ℕ) (p : List A) where
     unfolding reducedRows
     rows-length = length-tab m (rowAfter o n col p M)
 
-    rows-at : (r : ℕ) → r < m → getD (reducedRows o m n col p M) r [] ≡ rowAfter o n col p M r
+    pub rows-at : (r : ℕ) → r < m → getD (reducedRows o m n col p M) r [] ≡ rowAfter o n col p M r
     unfolding reducedRows
     rows-at r h = getD-tab m (rowAfter o n col p M) r [] h
 
-    row-above : (r : ℕ) → r ≤ col → rowAfter o n col p M r ≡ getD M r []
+    pub row-above : (r : ℕ) → r ≤ col → rowAfter o n col p M r ≡ getD M r []
     unfolding rowAfter
     row-above r h = rw (le-leb r col h)
 
-    row-below : (r : ℕ) → col < r → rowAfter o n col p M r ≡ reduced o n col p (getD M r [])
+    pub row-below : (r : ℕ) → col < r → rowAfter o n col p M r ≡ reduced o n col p (getD M r [])
     unfolding rowAfter
     row-below r h = rw (lt-leb r col h)
 
@@ -113,6 +113,10 @@ cond-le : (b : Bool) (x y n : ℕ) → x ≤ n → y ≤ n → cond b x y ≤ n
 cond-le true x y n h g = h
 cond-le false x y n h g = g
 
+cond-ge : (b : Bool) (x y n : ℕ) → n ≤ x → n ≤ y → n ≤ cond b x y
+cond-ge true x y n h g = h
+cond-ge false x y n h g = g
+
 module _ {A : Type 0} (o : Ops A) where
   best-le : (M : List (List A)) (k lo n : ℕ) → turns (lo + 1) n (better o M k) lo ≤ lo + n
   unfolding turns
@@ -122,7 +126,18 @@ module _ {A : Type 0} (o : Ops A) where
       let best = turns (lo + 1) n (better o M k) lo in
       cond-le (atLeast (o .val (at2 o M (lo + 1 + n) k)) (o .val (at2 o M best k))) (lo + 1 + n) best (lo + suc n) (omega arith) (omega arith)
 
+  best-ge : (M : List (List A)) (k lo n : ℕ) → lo ≤ turns (lo + 1) n (better o M k) lo
+  unfolding turns
+  best-ge M k lo zero = omega arith
+  best-ge M k lo (suc n) =
+      let best = turns (lo + 1) n (better o M k) lo in
+      cond-ge (atLeast (o .val (at2 o M (lo + 1 + n) k)) (o .val (at2 o M best k))) (lo + 1 + n) best lo (omega arith) (best-ge M k lo n)
+
   module _ (m : ℕ) where
+    pub pivot-ge : (col : ℕ) (M : List (List A)) → col ≤ pivot o m col M
+    unfolding pivot bestAmong
+    pivot-ge col M = best-ge M col col (m - 1 - col)
+
     pub pivot-lt : (col : ℕ) (M : List (List A)) → col < m → pivot o m col M < m
     unfolding pivot bestAmong
     pivot-lt col M h = omega (arith, best-le M col col (m - 1 - col))

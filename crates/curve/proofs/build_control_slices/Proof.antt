@@ -1,11 +1,12 @@
 -- `curve::build_control_slices` meets its contract.
+use mathlib.Core.Bool.{false}
 use mathlib.Core.Path.{_≡_, sym, ap, _∙_}
 use native.Mathlib.Omega.{arith}
 use denote.Ref.{now}
 use Rattle.curve.specs.declared.Curve.{Curve}
 use Rattle.curve.specs.Build.{controlCurve, sliceRules}
 use Rattle.curve.proofs.Doors.{refused-build, after-build, moved-build}
-use Rattle.curve.proofs.Assembled.{room-of, built-made, numbered-slices, slices-passed}
+use Rattle.curve.proofs.Assembled.{room-of, built-made, numbered-handles, handles-passed-knots}
 use borrow.Author.Needs.{needs}
 use Rattle.curve.proofs.build_control_slices.Statement.{statement}
 use Rattle.curve.proofs.build_control_slices.Tie as tie
@@ -31,7 +32,7 @@ answer-build-requires : tie.Need-answer-build-requires
 answer-build-requires c κs =
     let t = c .before .before .before in
     let a = start-of t .args in
-    let n = room-of _ (a .given) (now (a .knots)) (slices-passed (now (a .coords)) (a .given) (now (a .knots)) (sym (t .before .before .assemble .ensures .0) ∙ t .if1 .left)) in
+    let n = room-of _ (a .given) (now (a .knots)) (handles-passed-knots (now (a .coords)) false (a .given) (now (a .knots)) (sym (t .before .before .assemble .ensures .0) ∙ t .if1 .left)) in
     omega (arith, n .1, ap (λ (k : Curve). k .«knot_count») (made t))
 
 same-length : tie.Need-same-length
@@ -44,7 +45,7 @@ returns-2 : tie.Need-returns-2
 returns-2 c =
     let t = c .before .before .before .before .before .before .before .before in
     let a = start-of t .args in
-    after-build (sliceRules (now (a .coords)) (a .given) (now (a .knots))) (numbered-slices _ (a .given) _) (sym (t .before .before .assemble .ensures .0) ∙ t .if1 .left)
+    after-build (sliceRules (now (a .coords)) (a .given) (now (a .knots))) (numbered-handles _ false (a .given) _) (sym (t .before .before .assemble .ensures .0) ∙ t .if1 .left)
     (moved-build (now (a .coords)) (made t) (c .before .before .before .before .answer-build .ensures))
 
 pub build-control-slices-spec : {M : Type 1} → statement M

@@ -1,6 +1,6 @@
 -- `curve::evaluate_slices` meets its contract: the rules of the slices, then the answer.
 use mathlib.Core.Path.{_≡_, sym, _∙_, subst}
-use mathlib.Core.Bool.{true}
+use mathlib.Core.Bool.{true, false}
 use Prim.Native.Nat.{_+_}
 use denote.Ref.{now}
 use lib.ListN.{take}
@@ -10,7 +10,7 @@ use Rattle.curve.specs.Record.{shapeOf}
 use Rattle.curve.specs.Evaluate.{pointOrders, pointRules}
 use Rattle.curve.specs.Build.{controlCurve, sliceRules}
 use Rattle.curve.proofs.Doors.{refused, after, moved}
-use Rattle.curve.proofs.Assembled.{built-made, numbered-slices, slices-trusted}
+use Rattle.curve.proofs.Assembled.{built-made, numbered-handles, slices-trusted}
 use borrow.Author.Needs.{needs}
 use Rattle.curve.proofs.evaluate_slices.Statement.{statement}
 use Rattle.curve.proofs.evaluate_slices.Tie as tie
@@ -47,7 +47,7 @@ returns-2 : tie.Need-returns-2
 returns-2 c =
     let t = c .before .before .before .before in
     let a = start-of t .args in
-    after (sliceRules (now (a .coords)) true (now (a .knots))) (numbered-slices _ true _) (sym (t .before .before .assemble .ensures .0) ∙ t .if1 .left)
+    after (sliceRules (now (a .coords)) true (now (a .knots))) (numbered-handles _ false true _) (sym (t .before .before .assemble .ensures .0) ∙ t .if1 .left)
     (moved (λ k. pointRules (shapeOf k) (a .t) (a .order) (now (a .out))) (λ k. pointOrders (shapeOf k) (a .t) (a .order)) (made t) (c .before .before .answer-point .ensures))
 
 pub evaluate-slices-spec : {M : Type 1} → statement M

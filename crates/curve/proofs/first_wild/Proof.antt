@@ -1,7 +1,11 @@
--- `curve::first_wild` meets its contract: each number passed is finite.
-use mathlib.Core.Path.{_∙_, sym, ap}
-use mathlib.Core.Bool.{not}
-use Prim.Native.Nat.{_-_}
+-- `curve::first_wild` meets its contract: each number passed is finite, and past the end of the list there is none.
+use mathlib.Core.Path.{_≡_, _∙_, refl, sym, ap}
+use mathlib.Core.Bool.{true, not}
+use mathlib.Core.List.{List}
+use Prim.Native.Nat.{ℕ, _-_, _≤_}
+use lib.ListN.{length, List·getD-eq-default}
+use lib.Ieee.{Float, nan}
+use denote.Ref.{now}
 use lib.Ieee.Scale.{finite}
 use Rattle.meaning.specs.Scalar.{plain}
 use Rattle.meaning.specs.Table.{at1}
@@ -9,6 +13,10 @@ use Rattle.knots.proofs.Searching.{Passed, passed, onward, found, ended}
 use borrow.Author.Needs.{needs}
 use Rattle.curve.proofs.first_wild.Statement.{statement}
 use Rattle.curve.proofs.first_wild.Tie as tie
+
+past : (a : List Float) (i : ℕ) → length a ≤ i → not (finite (at1 plain a i)) ≡ true
+unfolding finite
+past a i h = ap (λ (x : Float). not (finite x)) (List·getD-eq-default a nan h)
 
 abbrev Inv-loop : tie.InvT-loop
 Inv-loop a k i₀ i = Passed (λ j. not (finite (at1 plain a j))) 0 k i
@@ -19,6 +27,9 @@ abbrev μ-loop : tie.MeasureT-loop
 loop-holds : tie.Need-loop-holds Inv-loop μ-loop
 loop-holds c = passed (search needs)
 
+returns : tie.Need-returns Inv-loop μ-loop
+returns c = found (c .before .before .loop .inv) (search needs) (past (now (c .before .before .before .before .args .a)) (c .before .before .loop .i) (search needs))
+
 mul-is-finite : tie.Need-mul-is-finite Inv-loop μ-loop
 mul-is-finite c = search needs
 
@@ -28,8 +39,8 @@ shared-slice-read-is-finite c = search needs
 is-finite-requires : tie.Need-is-finite-requires Inv-loop μ-loop
 is-finite-requires c κs = search needs
 
-returns : tie.Need-returns Inv-loop μ-loop
-returns c = found (c .before .before .before .before .loop .inv) (search needs) (ap not (sym (c .before .is-finite .ensures)) ∙ c .if1 .taken)
+returns-2 : tie.Need-returns-2 Inv-loop μ-loop
+returns-2 c = found (c .before .before .before .before .before .loop .inv) (search needs) (ap not (sym (c .before .is-finite .ensures)) ∙ c .if2 .taken)
 
 add-i : tie.Need-add-i Inv-loop μ-loop
 add-i c = search needs
@@ -38,10 +49,10 @@ loop-less : tie.Need-loop-less Inv-loop μ-loop
 loop-less c = search needs
 
 loop-again : tie.Need-loop-again Inv-loop μ-loop
-loop-again c = onward (c .before .before .before .before .loop .inv) (search needs) (ap not (sym (c .before .is-finite .ensures)) ∙ c .if1 .left)
+loop-again c = onward (c .before .before .before .before .before .loop .inv) (search needs) (ap not (sym (c .before .is-finite .ensures)) ∙ c .if2 .left)
 
-returns-2 : tie.Need-returns-2 Inv-loop μ-loop
-returns-2 c = ended (c .before .loop .inv) (search needs)
+returns-3 : tie.Need-returns-3 Inv-loop μ-loop
+returns-3 c = ended (c .before .loop .inv) (search needs)
 
 pub first-wild-spec : {M : Type 1} → statement M
 first-wild-spec =
@@ -50,11 +61,12 @@ first-wild-spec =
     Inv-loop
     μ-loop
     loop-holds
+    returns
     mul-is-finite
     shared-slice-read-is-finite
     is-finite-requires
-    returns
+    returns-2
     add-i
     loop-less
     loop-again
-    returns-2)
+    returns-3)

@@ -1,6 +1,6 @@
 -- `curve::length_slices` meets its contract: the rules of the slices, then the answer.
 use mathlib.Core.Path.{_≡_, sym, _∙_, subst}
-use mathlib.Core.Bool.{true}
+use mathlib.Core.Bool.{true, false}
 use mathlib.Core.List.{[], _∷_}
 use Prim.Native.Nat.{_+_}
 use denote.Ref.{now}
@@ -12,7 +12,7 @@ use Rattle.curve.specs.Record.{shapeOf}
 use Rattle.curve.specs.Length.{lengthOf, lengthRules}
 use Rattle.curve.specs.Build.{controlCurve, sliceRules}
 use Rattle.curve.proofs.Doors.{refused, after, moved}
-use Rattle.curve.proofs.Assembled.{built-made, numbered-slices, slices-trusted}
+use Rattle.curve.proofs.Assembled.{built-made, numbered-handles, slices-trusted}
 use borrow.Author.Needs.{needs}
 use Rattle.curve.proofs.length_slices.Statement.{statement}
 use Rattle.curve.proofs.length_slices.Tie as tie
@@ -49,7 +49,7 @@ returns-2 : tie.Need-returns-2
 returns-2 c =
     let t = c .before .before .before .before in
     let a = start-of t .args in
-    after (sliceRules (now (a .coords)) true (now (a .knots))) (numbered-slices _ true _) (sym (t .before .before .assemble .ensures .0) ∙ t .if1 .left)
+    after (sliceRules (now (a .coords)) true (now (a .knots))) (numbered-handles _ false true _) (sym (t .before .before .assemble .ensures .0) ∙ t .if1 .left)
     (moved (λ k. lengthRules (shapeOf k) (now (a .out))) (λ k. lengthOf plain (shapeOf k) ∷ []) (made t) (c .before .before .answer-length .ensures))
 
 pub length-slices-spec : {M : Type 1} → statement M

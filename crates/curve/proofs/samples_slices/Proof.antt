@@ -1,6 +1,6 @@
 -- `curve::samples_slices` meets its contract: the rules of the slices, then the answer.
 use mathlib.Core.Path.{_≡_, sym, _∙_, subst}
-use mathlib.Core.Bool.{true}
+use mathlib.Core.Bool.{true, false}
 use Prim.Native.Nat.{_+_}
 use denote.Ref.{now}
 use lib.ListN.{take}
@@ -10,7 +10,7 @@ use Rattle.curve.specs.Record.{shapeOf}
 use Rattle.curve.specs.Samples.{samplesOf, sampleRules}
 use Rattle.curve.specs.Build.{controlCurve, sliceRules}
 use Rattle.curve.proofs.Doors.{refused-counted, after-counted, moved-counted}
-use Rattle.curve.proofs.Assembled.{built-made, numbered-slices, slices-trusted}
+use Rattle.curve.proofs.Assembled.{built-made, numbered-handles, slices-trusted}
 use borrow.Author.Needs.{needs}
 use Rattle.curve.proofs.samples_slices.Statement.{statement}
 use Rattle.curve.proofs.samples_slices.Tie as tie
@@ -47,7 +47,7 @@ returns-2 : tie.Need-returns-2
 returns-2 c =
     let t = c .before .before .before .before .before in
     let a = start-of t .args in
-    after-counted (sliceRules (now (a .coords)) true (now (a .knots))) (numbered-slices _ true _) (sym (t .before .before .assemble .ensures .0) ∙ t .if1 .left)
+    after-counted (sliceRules (now (a .coords)) true (now (a .knots))) (numbered-handles _ false true _) (sym (t .before .before .assemble .ensures .0) ∙ t .if1 .left)
     (moved-counted (λ k. sampleRules (shapeOf k) (a .per) (now (a .out))) (λ k. samplesOf (shapeOf k) (a .per)) (made t) (c .before .before .answer-samples .ensures))
 
 pub samples-slices-spec : {M : Type 1} → statement M

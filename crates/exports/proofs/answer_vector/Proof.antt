@@ -1,15 +1,18 @@
 -- `exports::answer_vector` meets its contract: x is written, then y behind it.
 use mathlib.Core.Path.{refl, _∙_}
-use Rattle.exports.proofs.Answers.{short-out, short-counts, given-v}
+use Rattle.exports.proofs.Answers.{short-out, short-counts, given-two}
+use Rattle.exports.specs.Crossing.{AnsweredV}
 use borrow.Author.Needs.{needs}
 use Rattle.exports.proofs.answer_vector.Statement.{statement}
 use Rattle.exports.proofs.answer_vector.Tie as tie
 
 returns : tie.Need-returns
-returns c = short-out _ _ _ (c .if1 .taken)
+unfolding AnsweredV
+returns c = short-out _ _ _ _ _ _ (c .if1 .taken)
 
 returns-2 : tie.Need-returns-2
-returns-2 c = short-counts _ _ _ (c .before .if1 .left) (c .if2 .taken)
+unfolding AnsweredV
+returns-2 c = short-counts _ _ _ _ _ _ (c .before .if1 .left) (c .if2 .taken)
 
 write-requires : tie.Need-write-requires
 write-requires c κs = search needs
@@ -30,11 +33,12 @@ same-length-2 : tie.Need-same-length-2
 same-length-2 c = search needs
 
 returns-3 : tie.Need-returns-3
+unfolding AnsweredV
 returns-3 c =
     let y = c .before .before in
     let x = y .before .before .before .before in
     let test = x .before .before in
-    given-v _ _ _ (test .before .if1 .left) (test .if2 .left) (y .write2 .ensures ∙ rw (x .write .ensures)) refl
+    given-two _ _ _ _ _ _ (test .before .if1 .left) (test .if2 .left) (y .write2 .ensures ∙ rw (x .write .ensures)) refl
 
 pub answer-vector-spec : {M : Type 1} → statement M
 answer-vector-spec =

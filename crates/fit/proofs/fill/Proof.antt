@@ -1,0 +1,81 @@
+use mathlib.Core.Path.{refl, _≡_, ap, sym, _∙_}
+use Prim.Native.Nat.{_-_, _+_, _≤_}
+use native.Mathlib.Omega.{arith}
+use lib.ListN.{length}
+use Rattle.meaning.specs.Scalar.{plain}
+use Rattle.solve.specs.Rows.{allBelow, ofRows}
+use Rattle.solve.proofs.Lists.{allBelow-none, allBelow-next}
+use Rattle.fit.specs.System.{rowOk, rowsOk}
+use Rattle.fit.specs.Stored.{foundFitRow, foundFitRows}
+use Rattle.fit.proofs.Rows.{Written, none-written, one-more, all-written, found-row-at, found-shaped}
+use borrow.Author.Needs.{needs}
+use Rattle.fit.proofs.fill.Statement.{statement}
+use Rattle.fit.proofs.fill.Tie as tie
+
+abbrev Inv-loop : tie.InvT-loop
+Inv-loop w₀ u p q n fine₀ m r₀ w fine r =
+    ofRows (n + 2) (n + 2 + 2) w₀ (λ M rest. Written (n + 2) (n + 2 + 2) (foundFitRows u p q n) r M rest w)
+    × (fine ≡ allBelow r (λ k. rowOk plain (n + 2) (foundFitRow u p q n k)))
+    × (r ≤ n + 2)
+    × (length w ≡ length w₀)
+
+abbrev μ-loop : tie.MeasureT-loop
+μ-loop w₀ u p q n fine₀ m r₀ w fine r = n + 2 - r
+
+add-m : tie.Need-add-m Inv-loop μ-loop
+add-m c = search needs
+
+loop-holds : tie.Need-loop-holds Inv-loop μ-loop
+loop-holds c = (λ M rest e sh. none-written (found-shaped _ _ _ _) sh e, allBelow-none _, search needs, refl)
+
+fill-at-requires : tie.Need-fill-at-requires Inv-loop μ-loop
+fill-at-requires c κs = search needs
+
+both-requires : tie.Need-both-requires Inv-loop μ-loop
+both-requires c κs = search needs
+
+add-r : tie.Need-add-r Inv-loop μ-loop
+add-r c = search needs
+
+loop-less : tie.Need-loop-less Inv-loop μ-loop
+loop-less c = search needs
+
+loop-again : tie.Need-loop-again Inv-loop μ-loop
+loop-again c =
+    let l = c .before .before .before .before .before .before .loop in
+    let t = c .before .before .before .before .before .loop-test .taken in
+    let call = c .before .before .before .fill-at in (
+      λ M rest e sh.
+          let old = l .inv .0 M rest e sh in
+          one-more (found-shaped _ _ _ _) sh old t (sym (found-row-at _ _ _ _ (l .r) t)) (call .ensures .held _ rest (old .rows) (old .shape)),
+      allBelow-next _ (l .r) (l .inv .1) (call .ensures .judged) (c .both .ensures),
+      search needs,
+      omega (arith, call .kept),
+    )
+
+same-length : tie.Need-same-length Inv-loop μ-loop
+same-length c = search needs
+
+returns : tie.Need-returns Inv-loop μ-loop
+unfolding rowsOk
+returns c =
+    let l = c .before .loop in
+    let n = c .before .before .before .before .args .n in
+    let e : l .r ≡ n + 2 = omega arith in
+    record { held = λ M rest q sh. all-written (found-shaped _ _ _ _) sh (l .inv .0 M rest q sh) (search needs); judged = rw e at (l .inv .1) }
+
+pub fill-spec : {M : Type 1} → statement M
+fill-spec =
+    tie.close
+    (tie.spec
+    Inv-loop
+    μ-loop
+    add-m
+    loop-holds
+    fill-at-requires
+    both-requires
+    add-r
+    loop-less
+    loop-again
+    same-length
+    returns)

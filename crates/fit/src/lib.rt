@@ -1,0 +1,352 @@
+// Curves through points: the parameters and knots, the system of the control points, and the build of both forms.
+ghost use mathlib.Core.Path.{_≡_};
+ghost use mathlib.Core.Bool.{true, false, not, _&&_};
+ghost use mathlib.Core.List.{[], _∷_};
+ghost use Prim.Native.Nat.{_+_, _-_, _*_, _/_, _≤_, _<_};
+ghost use lib.ListN.{length};
+ghost use lib.Ieee.{nan};
+ghost use lib.Ieee.Scale.{finite};
+ghost use Rattle.meaning.specs.Scalar.{plain};
+ghost use Rattle.meaning.specs.Table.{at1};
+ghost use Rattle.meaning.specs.Refusals.{row};
+ghost use Rattle.knots.specs.Search.{listed};
+ghost use Rattle.knots.proofs.Filling.{Filled};
+ghost use Rattle.plane.specs.View.{view};
+ghost use Rattle.solve.specs.Outcome.{workOf};
+ghost use Rattle.fit.specs.Parameters.{pointAt, stepAt, sumOf, parameterAt, knotAt, knotsBy};
+ghost use Rattle.fit.specs.System.{spread, withSides};
+ghost use Rattle.fit.specs.Stored.{foundRow, foundFitRow, foundFitRows, Stored, StoredAt, StoredAll};
+ghost use Rattle.fit.specs.Fit.{pointsIn, controlsFor, workFor, curveThrough, allFine, workShort, fitRules, workAfter, buildRules, curveOf, workOfBuild, AnswerCurve};
+ghost use Rattle.fit.specs.Slices.{inTurn, roomShort, AnswerFit};
+use curve::Built;
+use curve::Curve;
+use knots::Refusal;
+use plane::P2;
+
+// ---- the parameters and the knots
+
+// Fit point k.
+fn point(q: &[f64], k: usize) -> P2
+    requires { ⌜ 2 * k + 1 < length (now q) ⌝ }
+    ensures { λ r. ⌜ view r ≡ pointAt plain (now (q .entry)) k ⌝ }
+{
+    P2 {
+        x: q[2 * k],
+        y: q[2 * k + 1],
+    }
+}
+
+// The step from fit point k to the next.
+fn step(q: &[f64], k: usize) -> f64
+    requires { ⌜ 2 * k + 3 < length (now q) ⌝ }
+    ensures { λ r. ⌜ r ≡ stepAt plain (now (q .entry)) k ⌝ }
+{
+    let a = point(q, k);
+    let b = point(q, k + 1);
+    let d = b.sub(a);
+    let square = d.dot(d);
+    root::root(root::root(square + 1e-24))
+}
+
+// The steps between n fit points.
+fn steps(q: &[f64], n: usize) -> [f64; 64]
+    requires { ⌜ (2 ≤ n) × (n ≤ 64) ⌝ ∗ ⌜ 2 * n ≤ length (now q) ⌝ }
+    ensures { λ r. ⌜ Filled (stepAt plain (now (q .entry))) nan 64 (n - 1) r ⌝ }
+{
+    let mut s = [0.0; 64];
+    let end = n - 1;
+    for k in 0..end {
+        s[k] = step(q, k);
+    }
+    s
+}
+
+// The sum of the first k steps, from 0 in order.
+fn total(s: &[f64; 64], k: usize) -> f64
+    requires { ⌜ k ≤ 64 ⌝ }
+    ensures { λ r. ⌜ r ≡ sumOf plain (at1 plain (now (s .entry))) k ⌝ }
+{
+    let mut sum = 0.0;
+    for i in 0..k {
+        sum = sum + s[i];
+    }
+    sum
+}
+
+// The parameters of n fit points: 0, the running sums over the total, 1.
+fn parameters(s: &[f64; 64], n: usize) -> [f64; 64]
+    requires { ⌜ (2 ≤ n) × (n ≤ 64) ⌝ }
+    ensures { λ r. ⌜ Filled (parameterAt plain (at1 plain (now (s .entry))) n) nan 64 n r ⌝ }
+{
+    let mut p = [0.0; 64];
+    let last = n - 1;
+    let all = total(s, last);
+    let mut sum = 0.0;
+    for k in 1..last {
+        sum = sum + s[k - 1];
+        p[k] = sum / all;
+    }
+    p[last] = 1.0;
+    p
+}
+
+// Knot j of the curve through n points with these parameters.
+fn knot_at(p: &[f64; 64], n: usize, j: usize) -> f64
+    requires { ⌜ (2 ≤ n) × (n ≤ 64) ⌝ }
+    ensures { λ r. ⌜ r ≡ knotAt plain (at1 plain (now (p .entry))) n j ⌝ }
+{
+    if j < 4 {
+        return 0.0;
+    }
+    if j < n + 2 {
+        return p[j - 3];
+    }
+    if j < n + 6 {
+        return 1.0;
+    }
+    0.0
+}
+
+// The knots of the curve through n points with these parameters.
+fn knots_by(p: &[f64; 64], n: usize) -> [f64; 70]
+    requires { ⌜ (2 ≤ n) × (n ≤ 64) ⌝ }
+    ensures { λ r. ⌜ r ≡ knotsBy plain (at1 plain (now (p .entry))) n ⌝ }
+{
+    let mut u = [0.0; 70];
+    for j in 0..70 {
+        u[j] = knot_at(p, n, j);
+    }
+    u
+}
+
+// ---- the system
+
+// Whether both hold.
+fn both(a: bool, b: bool) -> bool
+    ensures { λ r. ⌜ r ≡ (a && b) ⌝ }
+{
+    if a { b } else { false }
+}
+
+// Column k of a row with the four numbers in the columns i - 3 to i.
+fn spread_at(four: [f64; 4], i: usize, k: usize) -> f64
+    requires { ⌜ k ≤ 66 ⌝ }
+    ensures { λ r. ⌜ r ≡ spread plain four i k ⌝ }
+{
+    if k + 3 < i {
+        return 0.0;
+    }
+    if k > i {
+        return 0.0;
+    }
+    four[k + 3 - i]
+}
+
+// Number k of a row of m matrix numbers and two right sides.
+fn number_at(four: [f64; 4], i: usize, m: usize, b: P2, k: usize) -> f64
+    requires { ⌜ m ≤ 66 ⌝ }
+    ensures { λ r. ⌜ r ≡ withSides plain m (spread plain four i) (view b) k ⌝ }
+{
+    if k < m {
+        return spread_at(four, i, k);
+    }
+    if k == m {
+        return b.x;
+    }
+    b.y
+}
+
+// A row filled with four numbers and the right sides. Answers whether all that is stored is finite.
+fn fill_row(t: &mut [f64], four: [f64; 4], i: usize, m: usize, b: P2) -> bool
+    requires { ⌜ (m ≤ 66) × (length (now t) ≡ m + 2) ⌝ }
+    ensures { λ r. ⌜ Stored m (listed 0 (m + 2) (withSides plain m (spread plain four i) (view b))) (now (t .exit)) r ⌝ }
+{
+    let mut fine = true;
+    let end = m + 2;
+    for k in 0..end {
+        let v = number_at(four, i, m, b, k);
+        t[k] = v;
+        fine = both(fine, number::is_finite(v));
+    }
+    fine
+}
+
+// The row that says: the derivative of order d at t is b.
+fn set_row(row: &mut [f64], u: &[f64; 70], m: usize, t: f64, d: usize, b: P2) -> bool
+    requires { ⌜ (m ≤ 66) × (d ≤ 4) × (length (now row) ≡ m + 2) ⌝ }
+    ensures { λ r. ⌜ Stored m (foundRow (now (u .entry)) m t d (view b)) (now (row .exit)) r ⌝ }
+{
+    let i = knots::span(u, m, t);
+    let ders = basis::plain::basis(u, i, t, d);
+    fill_row(row, ders[d], i, m, b)
+}
+
+// Row r of the system of n fit points q with the parameters p and the knots u.
+fn system_row<'a>(
+    row: &mut [f64],
+    u: &'a [f64; 70],
+    p: &'a [f64; 64],
+    q: &'a [f64],
+    n: usize,
+    r: usize,
+) -> bool
+    requires { ⌜ (n ≤ 64) × (r < n + 2) × (2 * n ≤ length (now q)) × (length (now row) ≡ n + 2 + 2) ⌝ }
+    ensures { λ b. ⌜ Stored (n + 2) (foundFitRow (now (u .entry)) (now (p .entry)) (now (q .entry)) n r) (now (row .exit)) b ⌝ }
+{
+    let m = n + 2;
+    if r == 0 {
+        return set_row(row, u, m, 0.0, 2, P2 { x: 0.0, y: 0.0 });
+    }
+    if r <= n {
+        let k = r - 1;
+        let b = point(q, k);
+        return set_row(row, u, m, p[k], 0, b);
+    }
+    set_row(row, u, m, 1.0, 2, P2 { x: 0.0, y: 0.0 })
+}
+
+// The same in its place in the work buffer.
+fn fill_at<'a>(
+    w: &mut [f64],
+    u: &'a [f64; 70],
+    p: &'a [f64; 64],
+    q: &'a [f64],
+    n: usize,
+    r: usize,
+) -> bool
+    requires { ⌜ (n ≤ 64) × (r < n + 2) × (2 * n ≤ length (now q)) × ((n + 2) * (n + 2 + 2) ≤ length (now w)) ⌝ }
+    ensures { λ b. ⌜ StoredAt (n + 2) r (foundFitRow (now (u .entry)) (now (p .entry)) (now (q .entry)) n r) (now (w .entry)) (now (w .exit)) b ⌝ }
+{
+    let s = n + 2 + 2;
+    let a = r * s;
+    let e = a + s;
+    system_row(&mut w[a..e], u, p, q, n, r)
+}
+
+// Every row of the system. Answers whether all that is stored is finite.
+fn fill<'a>(w: &mut [f64], u: &'a [f64; 70], p: &'a [f64; 64], q: &'a [f64], n: usize) -> bool
+    requires { ⌜ (n ≤ 64) × (2 * n ≤ length (now q)) × ((n + 2) * (n + 2 + 2) ≤ length (now w)) ⌝ }
+    ensures { λ b. ⌜ StoredAll (n + 2) (foundFitRows (now (u .entry)) (now (p .entry)) (now (q .entry)) n) (foundFitRow (now (u .entry)) (now (p .entry)) (now (q .entry)) n) (now (w .entry)) (now (w .exit)) b ⌝ }
+{
+    let mut fine = true;
+    let m = n + 2;
+    for r in 0..m {
+        fine = both(fine, fill_at(w, u, p, q, n, r));
+    }
+    fine
+}
+
+// ---- the build
+
+// The curve through points that the rules 1 to 14 let through, or refusal 15.
+// Corresponds to 000 Curve::interpolate.
+fn interpolate(q: &[f64], work: &mut [f64]) -> Built
+    requires { ⌜ (2 ≤ pointsIn (now q)) × (pointsIn (now q) ≤ 64) × (workFor (now q) ≤ length (now work)) ⌝ }
+    ensures { λ r. ⌜ AnswerCurve (row 15 (not (allFine (now (q .entry)))) ∷ []) (curveThrough (now (q .entry))) (workOf (controlsFor (now (q .entry))) (now (work .entry))) r (now (work .exit)) ⌝ }
+{
+    let n = q.len() / 2;
+    let m = n + 2;
+    let s = steps(q, n);
+    let p = parameters(&s, n);
+    let u = knots_by(&p, n);
+    let stored = fill(work, &u, &p, q, n);
+    let solved = solve::solve(work, m);
+    if curve::first_wild(&u, 70) < 70 {
+        return curve::refused(15);
+    }
+    if !stored {
+        return curve::refused(15);
+    }
+    if !solved.fine {
+        return curve::refused(15);
+    }
+    let xs = solved.xs;
+    let ys = solved.ys;
+    Built {
+        refusal: Refusal { number: 0 },
+        curve: Curve {
+            points: m,
+            knot_count: m + 4,
+            xs,
+            ys,
+            knots: u,
+        },
+    }
+}
+
+// The curve through fit points x, y in turn, by the rules for them.
+fn build_fit(q: &[f64], given: bool, knots: &[f64], work: &mut [f64]) -> Built
+    ensures { λ r. ⌜ AnswerCurve (fitRules (now (q .entry)) given (now (knots .entry)) (workShort (now (q .entry)) (now (work .entry)))) (curveThrough (now (q .entry))) (workAfter (now (q .entry)) given (now (knots .entry)) (workShort (now (q .entry)) (now (work .entry))) (now (work .entry))) r (now (work .exit)) ⌝ }
+{
+    let r = curve::refused_handles(q, true, given, knots);
+    if r.number != 0 {
+        return curve::refused(r.number);
+    }
+    let m = q.len() / 2 + 2;
+    if work.len() < m * (m + 2) {
+        return curve::refused(14);
+    }
+    interpolate(q, work)
+}
+
+// The curve of handles x, y in turn: through them where `fit` says that they are fit points, else with them as control points over the knots, if any
+// are given. Fit points need work of m² + 2m doubles for m = n + 2 control points.
+// Corresponds to 000 BSpline::new.
+pub fn build(coords: &[f64], fit: bool, given: bool, knots: &[f64], work: &mut [f64]) -> Built
+    ensures { λ r. ⌜ AnswerCurve (buildRules fit (now (coords .entry)) given (now (knots .entry)) (now (work .entry))) (curveOf fit (now (coords .entry)) given (now (knots .entry))) (workOfBuild fit (now (coords .entry)) given (now (knots .entry)) (now (work .entry))) r (now (work .exit)) ⌝ }
+{
+    if fit {
+        return build_fit(coords, given, knots, work);
+    }
+    curve::build_control(coords, given, knots)
+}
+
+// ---- the same answered in slices
+
+// The control points x, y in turn.
+fn in_turn<'a>(xs: &'a [f64; 66], ys: &'a [f64; 66], n: usize) -> [f64; 132]
+    requires { ⌜ n ≤ 66 ⌝ }
+    ensures { λ r. ⌜ r ≡ inTurn n (now (xs .entry)) (now (ys .entry)) ⌝ }
+{
+    let mut a = [0.0; 132];
+    for i in 0..n {
+        a[2 * i] = xs[i];
+        a[2 * i + 1] = ys[i];
+    }
+    a
+}
+
+// The fit with its control points in control and its knots in knots_out.
+pub fn build_fit_slices(
+    q: &[f64],
+    given: bool,
+    knots: &[f64],
+    work: &mut [f64],
+    control: &mut [f64],
+    knots_out: &mut [f64],
+) -> Refusal
+    ensures { λ r. ⌜ AnswerFit (fitRules (now (q .entry)) given (now (knots .entry)) (roomShort (now (q .entry)) (now (work .entry)) (now (control .entry)) (now («knots_out» .entry)))) (curveThrough (now (q .entry))) (workAfter (now (q .entry)) given (now (knots .entry)) (roomShort (now (q .entry)) (now (work .entry)) (now (control .entry)) (now («knots_out» .entry))) (now (work .entry))) (now (control .entry)) (now («knots_out» .entry)) (r .number) (now (control .exit)) (now («knots_out» .exit)) (now (work .exit)) ⌝ }
+{
+    let r = curve::refused_handles(q, true, given, knots);
+    if r.number != 0 {
+        return r;
+    }
+    let m = q.len() / 2 + 2;
+    if work.len() < m * (m + 2) {
+        return Refusal { number: 14 };
+    }
+    if control.len() < 2 * m {
+        return Refusal { number: 14 };
+    }
+    if knots_out.len() < m + 4 {
+        return Refusal { number: 14 };
+    }
+    let b = interpolate(q, work);
+    if b.refusal.number != 0 {
+        return b.refusal;
+    }
+    let points = in_turn(&b.curve.xs, &b.curve.ys, m);
+    buffer::put(&points, 2 * m, control, 0);
+    buffer::put(&b.curve.knots, m + 4, knots_out, 0);
+    Refusal { number: 0 }
+}

@@ -1,11 +1,11 @@
 -- The rules for fit points, from the tests that the build makes one after the other. Assumes nothing.
-use mathlib.Core.Path.{_≡_, refl, sym, ap, _∙_}
+use mathlib.Core.Path.{_≡_, sym, _∙_}
 use mathlib.Core.Bool.{Bool, true, false, not}
 use mathlib.Core.List.{List, [], _∷_, _++_}
-use Prim.Native.Nat.{ℕ, zero, suc, _+_, _≤_, _<_}
+use Prim.Native.Nat.{ℕ, _+_, _≤_}
 use native.Mathlib.Nat.{mul-le-mul-right}
 use native.Mathlib.Omega.{arith}
-use borrow.Author.Tests.{ltb-false, eq-eqb, ne-eqb}
+use borrow.Author.Tests.{ltb-false, ne-eqb}
 use lib.Ieee.{Float}
 use Rattle.meaning.specs.Refusals.{Row, row, firstOf}
 use Rattle.knots.specs.Rules.{knotRules}
@@ -14,7 +14,7 @@ use Rattle.curve.specs.Build.{handleRules}
 use Rattle.curve.proofs.Rows.{row-applies, row-passes, second-decides, first-decides}
 use Rattle.curve.proofs.Assembled.{numbered-handles, handles-passed-knots}
 use Rattle.solve.specs.Outcome.{workOf}
-use Rattle.fit.specs.Fit.{pointsIn, controlsFor, workFor, allFine, roomRules, fitRules, workAfter}
+use Rattle.fit.specs.Fit.{pointsIn, controlsFor, workFor, allFine, fitRules, workAfter}
 
 -- the number of fit points is in range
 pub fit-room : (q : List Float) (given : Bool) (ks : List Float) → firstOf (handleRules q true given ks) ≡ 0 → (2 ≤ pointsIn q) × (pointsIn q ≤ 64)

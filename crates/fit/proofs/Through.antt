@@ -1,11 +1,11 @@
 -- From what the code holds to the definition: the arrays are the definition's parameters and knots, and where these are finite the span that the
 -- search finds is document 01's, so that the rows, the verdicts and the solution are the definition's. Assumes nothing.
-use mathlib.Core.Path.{_≡_, refl, sym, ap, _∙_}
+use mathlib.Core.Path.{_≡_, sym, ap, _∙_}
 use mathlib.Core.Bool.{Bool, true, false, not, _&&_, cond}
 use mathlib.Core.List.{List, [], _∷_}
-use Prim.Native.Nat.{ℕ, zero, suc, _+_, _-_, _*_, _/_, _≤_, _<_}
+use Prim.Native.Nat.{ℕ, _+_, _-_, _*_, _≤_, _<_}
 use native.Mathlib.Omega.{arith}
-use lib.ListN.{length, getD, drop}
+use lib.ListN.{length, drop}
 use lib.Dec.{eqb}
 use lib.Ieee.{Float, nan}
 use Rattle.meaning.specs.Scalar.{plain}
@@ -23,12 +23,12 @@ use Rattle.curve.specs.declared.Built.{Built}
 use Rattle.curve.specs.Record.{someWild, emptyCurve}
 use Rattle.curve.proofs.Rows.{row-applies, row-passes}
 use Rattle.curve.proofs.Assembled.{built-refused, built-made}
-use Rattle.fit.specs.Parameters.{stepAt, parameterAt, knotsBy, fitParameter, fitKnots}
+use Rattle.fit.specs.Parameters.{stepAt, parameterAt, knotsBy, fitParameter}
 use Rattle.fit.specs.System.{rowsOk, fitRow, fitRows}
 use Rattle.fit.specs.Stored.{foundFitRow, foundFitRows, StoredAll}
-use Rattle.fit.specs.Fit.{pointsIn, controlsFor, workFor, knotsThrough, rowThrough, rowsThrough, solutionThrough, curveThrough, allFine, AnswerCurve}
+use Rattle.fit.specs.Fit.{pointsIn, controlsFor, knotsThrough, rowThrough, rowsThrough, solutionThrough, curveThrough, allFine, AnswerCurve}
 use Rattle.fit.proofs.Sums.{parameter-cong, knots-cong}
-use Rattle.fit.proofs.Rows.{fit-row-cong, fit-rows-cong, found-shaped}
+use Rattle.fit.proofs.Rows.{fit-row-cong, fit-rows-cong}
 use Rattle.fit.proofs.Rising.{fit-span}
 
 -- ---- the solve of the filled buffer

@@ -5,11 +5,10 @@ use Prim.Native.Nat.{_+_, _*_, _≤_}
 use native.Mathlib.Omega.{arith}
 use borrow.Author.Tests.{lt-ltb, le-ltb}
 use denote.Ref.{now}
-use lib.ListN.{length}
 use Rattle.curve.specs.declared.Curve.{Curve}
 use Rattle.curve.proofs.Doors.{put-all}
 use Rattle.curve.proofs.Assembled.{built-made}
-use Rattle.fit.specs.Fit.{pointsIn, controlsFor, workFor, curveThrough}
+use Rattle.fit.specs.Fit.{pointsIn, controlsFor, curveThrough}
 use Rattle.fit.specs.Slices.{inTurn, roomShort}
 use Rattle.fit.proofs.Asked.{fit-room, work-small, handles-refused, handles-work, short-refused, short-work, fine-left, used-work}
 use Rattle.fit.proofs.InSlices.{length-in-turn, all, slices-refused}

@@ -1,4 +1,5 @@
-use mathlib.Core.Path.{refl, _≡_, ap, sym, _∙_}
+-- `fit::fill` meets its contract: the rows below r are the system's, and the verdict is theirs.
+use mathlib.Core.Path.{refl, _≡_, sym}
 use Prim.Native.Nat.{_-_, _+_, _≤_}
 use native.Mathlib.Omega.{arith}
 use lib.ListN.{length}

@@ -1,3 +1,4 @@
+-- `fit::fill_at` meets its contract: one row of the buffer is replaced.
 use Prim.Native.Nat.{_+_}
 use native.Mathlib.Omega.{arith}
 use denote.Ref.{now}

@@ -1,4 +1,5 @@
-use mathlib.Core.Path.{refl, _≡_, ap, sym, _∙_}
+-- `fit::fill_row` meets its contract: a turn stores one number and judges it.
+use mathlib.Core.Path.{_≡_, ap, _∙_}
 use Prim.Native.Nat.{_-_, _+_}
 use native.Mathlib.Omega.{arith}
 use lib.Ieee.{nan}

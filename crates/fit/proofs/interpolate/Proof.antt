@@ -1,15 +1,14 @@
 -- `fit::interpolate` meets its contract: the buffer holds the definition's system, and the verdicts are its verdicts.
-use mathlib.Core.Path.{_≡_, refl, sym, ap, _∙_}
+use mathlib.Core.Path.{_≡_, refl, sym, _∙_}
 use mathlib.Core.Bool.{Bool, true, false, not}
 use mathlib.Core.List.{List}
-use Prim.Native.Nat.{ℕ, _+_, _*_, _≤_}
+use Prim.Native.Nat.{_≤_}
 use native.Mathlib.Omega.{arith}
 use denote.Ref.{now}
 use lib.ListN.{length}
 use lib.Ieee.{Float}
 use Rattle.knots.proofs.Searching.{told-some, told-none}
-use Rattle.solve.specs.Outcome.{workOf}
-use Rattle.fit.specs.Fit.{pointsIn, controlsFor, workFor, solutionThrough, allFine}
+use Rattle.fit.specs.Fit.{pointsIn, workFor}
 use Rattle.fit.proofs.Rows.{found-shaped}
 use Rattle.fit.proofs.Through.{solve-filled, work-filled, knots-are, wild-knots, solution-is, wild-rows, wild-solution, all-fine, answer-15, answer-curve}
 use borrow.Author.Needs.{needs}

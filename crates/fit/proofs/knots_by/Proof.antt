@@ -1,3 +1,4 @@
+-- `fit::knots_by` meets its contract: a turn stores one knot.
 use mathlib.Core.Path.{refl}
 use Prim.Native.Nat.{_-_}
 use lib.Ieee.{nan}
@@ -8,9 +9,6 @@ use Rattle.fit.specs.Parameters.{knotAt, knotsBy}
 use borrow.Author.Needs.{needs}
 use Rattle.fit.proofs.knots_by.Statement.{statement}
 use Rattle.fit.proofs.knots_by.Tie as tie
-use Rattle.fit.proofs.knots_by.Reads as reads
-use Rattle.fit.proofs.knots_by.Lts as lts
-use Rattle.fit.proofs.knot_at.Reads as knot-at-reads
 
 abbrev Inv-loop : tie.InvT-loop
 Inv-loop p n u₀ j₀ u j = Filled (knotAt plain (at1 plain p) n) nan 70 j u
@@ -18,35 +16,27 @@ Inv-loop p n u₀ j₀ u j = Filled (knotAt plain (at1 plain p) n) nan 70 j u
 abbrev μ-loop : tie.MeasureT-loop
 μ-loop p n u₀ j₀ u j = 70 - j
 
--- src/lib.rt:118:5
 loop-holds : tie.Need-loop-holds Inv-loop μ-loop
 loop-holds c = empty refl
 
--- src/lib.rt:119:16
 knot-at-requires : tie.Need-knot-at-requires Inv-loop μ-loop
 knot-at-requires c κs = search needs
 
--- src/lib.rt:119:9
 mul-u : tie.Need-mul-u Inv-loop μ-loop
 mul-u c = search needs
 
--- src/lib.rt:119:9
 array-write-u : tie.Need-array-write-u Inv-loop μ-loop
 array-write-u c = search needs
 
--- src/lib.rt:118:9
 add-j : tie.Need-add-j Inv-loop μ-loop
 add-j c = search needs
 
--- src/lib.rt:118:5
 loop-less : tie.Need-loop-less Inv-loop μ-loop
 loop-less c = search needs
 
--- src/lib.rt:118:5
 loop-again : tie.Need-loop-again Inv-loop μ-loop
 loop-again c = filled (c .before .before .loop .inv) (search needs) (c .knot-at .ensures)
 
--- src/lib.rt:113:1
 returns : tie.Need-returns Inv-loop μ-loop
 unfolding knotsBy
 returns c = full (c .before .loop .inv) (search needs)

@@ -1,27 +1,21 @@
+-- `fit::number_at` meets its contract: a matrix number, or one of the two right sides.
 use borrow.Author.Tests.{lt-ltb, le-ltb, eq-eqb, ne-eqb}
 use Rattle.fit.specs.System.{withSides}
 use borrow.Author.Needs.{needs}
 use Rattle.fit.proofs.number_at.Statement.{statement}
 use Rattle.fit.proofs.number_at.Tie as tie
-use Rattle.fit.proofs.number_at.Reads as reads
-use Rattle.fit.proofs.number_at.Lts as lts
-use Rattle.fit.proofs.spread_at.Reads as spread-at-reads
 
--- src/lib.rt:153:9
 spread-at-requires : tie.Need-spread-at-requires
 spread-at-requires c κs = search needs
 
--- src/lib.rt:153:9
 returns : tie.Need-returns
 unfolding withSides
 returns c = rw (lt-ltb _ _ (c .before .if1 .taken)) (c .spread-at .ensures)
 
--- src/lib.rt:156:9
 returns-2 : tie.Need-returns-2
 unfolding withSides
 returns-2 c = rw (le-ltb _ _ (c .before .if1 .left), eq-eqb _ _ (c .if2 .taken))
 
--- src/lib.rt:148:1
 returns-3 : tie.Need-returns-3
 unfolding withSides
 returns-3 c = rw (le-ltb _ _ (c .before .if1 .left), ne-eqb _ _ (c .if2 .left))

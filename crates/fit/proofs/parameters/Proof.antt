@@ -1,19 +1,17 @@
-use mathlib.Core.Path.{refl, _≡_, ap, sym, _∙_}
+-- `fit::parameters` meets its contract: the running sum is the sum of the steps before.
+use mathlib.Core.Path.{_≡_, _∙_}
 use Prim.Native.Nat.{_-_, _+_, _≤_}
 use native.Mathlib.Omega.{arith}
 use lib.Ieee.{nan}
 use Rattle.meaning.specs.Scalar.{plain}
 use Rattle.meaning.specs.Table.{at1}
-use Rattle.knots.proofs.Filling.{Filled, empty, filled}
+use Rattle.knots.proofs.Filling.{Filled, filled}
 use Rattle.fit.specs.Parameters.{sumOf, parameterAt}
 use Rattle.fit.proofs.Sums.{sum-none, sum-turn, parameter-inner, parameter-last, parameters-begin}
 use denote.Ref.{now}
 use borrow.Author.Needs.{needs}
 use Rattle.fit.proofs.parameters.Statement.{statement}
 use Rattle.fit.proofs.parameters.Tie as tie
-use Rattle.fit.proofs.parameters.Reads as reads
-use Rattle.fit.proofs.parameters.Lts as lts
-use Rattle.fit.proofs.total.Reads as total-reads
 
 abbrev Inv-loop : tie.InvT-loop
 Inv-loop s n p₀ last all sum₀ k₀ p sum k = (1 ≤ k) × (k ≤ n - 1) × (sum ≡ sumOf plain (at1 plain s) (k - 1)) × Filled (parameterAt plain (at1 plain s) n) nan 64 k p
@@ -21,47 +19,36 @@ Inv-loop s n p₀ last all sum₀ k₀ p sum k = (1 ≤ k) × (k ≤ n - 1) × (
 abbrev μ-loop : tie.MeasureT-loop
 μ-loop s n p₀ last all sum₀ k₀ p sum k = n - 1 - k
 
--- src/lib.rt:84:16
 sub-last : tie.Need-sub-last Inv-loop μ-loop
 sub-last c = search needs
 
--- src/lib.rt:85:9
 total-requires : tie.Need-total-requires Inv-loop μ-loop
 total-requires c κs = search needs
 
--- src/lib.rt:87:5
 loop-holds : tie.Need-loop-holds Inv-loop μ-loop
 loop-holds c = (search needs, search needs, sum-none plain _, parameters-begin _ _)
 
--- src/lib.rt:88:23
 sub-sum : tie.Need-sub-sum Inv-loop μ-loop
 sub-sum c = search needs
 
--- src/lib.rt:88:21
 mul-sum : tie.Need-mul-sum Inv-loop μ-loop
 mul-sum c = search needs
 
--- src/lib.rt:88:21
 element-copy-out-sum : tie.Need-element-copy-out-sum Inv-loop μ-loop
 element-copy-out-sum c = search needs
 
--- src/lib.rt:89:9
 mul-p : tie.Need-mul-p Inv-loop μ-loop
 mul-p c = search needs
 
--- src/lib.rt:89:9
 array-write-p : tie.Need-array-write-p Inv-loop μ-loop
 array-write-p c = search needs
 
--- src/lib.rt:87:9
 add-k : tie.Need-add-k Inv-loop μ-loop
 add-k c = search needs
 
--- src/lib.rt:87:5
 loop-less : tie.Need-loop-less Inv-loop μ-loop
 loop-less c = search needs
 
--- src/lib.rt:87:5
 loop-again : tie.Need-loop-again Inv-loop μ-loop
 loop-again c =
     let l = c .before .before .loop in
@@ -72,15 +59,12 @@ loop-again c =
     let b = c .before .loop-test .taken in
     (search needs, search needs, rw e sum, filled (l .inv .3) (search needs) ((λ t. plain .over (sum t) (c .before .before .before .total .ensures t)) ∙ parameter-inner plain st (a .n) (l .k) (l .inv .0) b))
 
--- src/lib.rt:91:5
 mul-p-2 : tie.Need-mul-p-2 Inv-loop μ-loop
 mul-p-2 c = search needs
 
--- src/lib.rt:91:5
 array-write-p-2 : tie.Need-array-write-p-2 Inv-loop μ-loop
 array-write-p-2 c = search needs
 
--- src/lib.rt:79:1
 returns : tie.Need-returns Inv-loop μ-loop
 returns c =
     let l = c .before .loop in

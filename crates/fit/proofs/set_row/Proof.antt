@@ -1,5 +1,4 @@
-use mathlib.Core.Path.{_≡_, ap, sym, _∙_}
-use Rattle.meaning.specs.Scalar.{plain}
+-- `fit::set_row` meets its contract: the span and the basis values of the definition, spread over the row.
 use Rattle.fit.specs.System.{rowAt, rowOf}
 use Rattle.fit.specs.Stored.{foundRow}
 use borrow.Author.Needs.{needs}

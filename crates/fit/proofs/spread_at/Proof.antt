@@ -1,42 +1,33 @@
+-- `fit::spread_at` meets its contract: the four columns of the span, and zeros.
 use borrow.Author.Tests.{lt-leb, le-leb}
 use Rattle.fit.specs.System.{spread}
 use borrow.Author.Needs.{needs}
 use Rattle.fit.proofs.spread_at.Statement.{statement}
 use Rattle.fit.proofs.spread_at.Tie as tie
-use Rattle.fit.proofs.spread_at.Reads as reads
-use Rattle.fit.proofs.spread_at.Lts as lts
 
--- src/lib.rt:138:8
 add-if1 : tie.Need-add-if1
 add-if1 c = search needs
 
--- src/lib.rt:139:9
 returns : tie.Need-returns
 unfolding spread
 returns c = rw (lt-leb _ _ (c .if1 .taken))
 
--- src/lib.rt:142:9
 returns-2 : tie.Need-returns-2
 unfolding spread
 returns-2 c = rw (le-leb _ _ (c .before .if1 .left), lt-leb _ _ (c .if2 .taken))
 
--- src/lib.rt:144:10
 add-result : tie.Need-add-result
 add-result c = search needs
 
--- src/lib.rt:144:10
 sub-result : tie.Need-sub-result
 sub-result c = search needs
 
--- src/lib.rt:144:5
 mul-result : tie.Need-mul-result
 mul-result c = search needs
 
--- src/lib.rt:144:5
 array-read-result : tie.Need-array-read-result
 array-read-result c = search needs
 
--- src/lib.rt:134:1
 returns-3 : tie.Need-returns-3
 unfolding spread
 returns-3 c = rw (le-leb _ _ (c .before .if1 .left), le-leb _ _ (c .if2 .left))

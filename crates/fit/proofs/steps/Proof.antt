@@ -1,5 +1,6 @@
+-- `fit::steps` meets its contract: a turn stores one step.
 use Prim.Native.Nat.{_-_, _≤_}
-use mathlib.Core.Path.{refl, _≡_, ap, sym, _∙_}
+use mathlib.Core.Path.{refl, _≡_}
 use native.Mathlib.Omega.{arith}
 use lib.Ieee.{nan}
 use Rattle.meaning.specs.Scalar.{plain}
@@ -8,9 +9,6 @@ use Rattle.fit.specs.Parameters.{stepAt}
 use borrow.Author.Needs.{needs}
 use Rattle.fit.proofs.steps.Statement.{statement}
 use Rattle.fit.proofs.steps.Tie as tie
-use Rattle.fit.proofs.steps.Reads as reads
-use Rattle.fit.proofs.steps.Lts as lts
-use Rattle.fit.proofs.step.Reads as step-reads
 
 abbrev Inv-loop : tie.InvT-loop
 Inv-loop q n s₀ end k₀ s k = (k ≤ n - 1) × Filled (stepAt plain q) nan 64 k s
@@ -18,39 +16,30 @@ Inv-loop q n s₀ end k₀ s k = (k ≤ n - 1) × Filled (stepAt plain q) nan 64
 abbrev μ-loop : tie.MeasureT-loop
 μ-loop q n s₀ end k₀ s k = n - 1 - k
 
--- src/lib.rt:59:15
 sub-end : tie.Need-sub-end Inv-loop μ-loop
 sub-end c = search needs
 
--- src/lib.rt:60:5
 loop-holds : tie.Need-loop-holds Inv-loop μ-loop
 loop-holds c = (search needs, empty refl)
 
--- src/lib.rt:61:16
 step-requires : tie.Need-step-requires Inv-loop μ-loop
 step-requires c κs = search needs
 
--- src/lib.rt:61:9
 mul-s : tie.Need-mul-s Inv-loop μ-loop
 mul-s c = search needs
 
--- src/lib.rt:61:9
 array-write-s : tie.Need-array-write-s Inv-loop μ-loop
 array-write-s c = search needs
 
--- src/lib.rt:60:9
 add-k : tie.Need-add-k Inv-loop μ-loop
 add-k c = search needs
 
--- src/lib.rt:60:5
 loop-less : tie.Need-loop-less Inv-loop μ-loop
 loop-less c = search needs
 
--- src/lib.rt:60:5
 loop-again : tie.Need-loop-again Inv-loop μ-loop
 loop-again c = (search needs, filled (c .before .before .loop .inv .1) (search needs) (c .step .ensures))
 
--- src/lib.rt:54:1
 returns : tie.Need-returns Inv-loop μ-loop
 returns c = let l = c .before .loop in let e : l .k ≡ c .before .before .before .args .n - 1 = omega arith in rw e at (l .inv .1)
 

@@ -1,8 +1,5 @@
-use mathlib.Core.Path.{ap, _∙_}
-use lib.Ieee.{Float}
+-- `fit::system_row` meets its contract: each case of the definition.
 use borrow.Author.Tests.{eq-eqb, ne-eqb, le-leb, lt-leb}
-use Rattle.meaning.specs.Scalar.{plain}
-use Rattle.plane.specs.Vector.{Vector}
 use Rattle.fit.specs.System.{fitRow}
 use Rattle.fit.specs.Stored.{foundRow, foundFitRow}
 use borrow.Author.Needs.{needs}

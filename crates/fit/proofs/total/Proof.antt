@@ -1,3 +1,4 @@
+-- `fit::total` meets its contract: a turn adds one step.
 use Prim.Native.Nat.{_-_}
 use mathlib.Core.Path.{refl}
 use Rattle.meaning.specs.Scalar.{plain}
@@ -7,8 +8,6 @@ use Rattle.fit.specs.Parameters.{sumOf}
 use borrow.Author.Needs.{needs}
 use Rattle.fit.proofs.total.Statement.{statement}
 use Rattle.fit.proofs.total.Tie as tie
-use Rattle.fit.proofs.total.Reads as reads
-use Rattle.fit.proofs.total.Lts as lts
 
 abbrev Inv-loop : tie.InvT-loop
 Inv-loop s k sum₀ i₀ sum i = At 0 k (λ j x. plain .plus x (at1 plain s j)) sum₀ i sum
@@ -16,31 +15,24 @@ Inv-loop s k sum₀ i₀ sum i = At 0 k (λ j x. plain .plus x (at1 plain s j)) 
 abbrev μ-loop : tie.MeasureT-loop
 μ-loop s k sum₀ i₀ sum i = k - i
 
--- src/lib.rt:72:5
 loop-holds : tie.Need-loop-holds Inv-loop μ-loop
 loop-holds c = first (search needs)
 
--- src/lib.rt:73:21
 mul-sum : tie.Need-mul-sum Inv-loop μ-loop
 mul-sum c = search needs
 
--- src/lib.rt:73:21
 element-copy-out-sum : tie.Need-element-copy-out-sum Inv-loop μ-loop
 element-copy-out-sum c = search needs
 
--- src/lib.rt:72:9
 add-i : tie.Need-add-i Inv-loop μ-loop
 add-i c = search needs
 
--- src/lib.rt:72:5
 loop-less : tie.Need-loop-less Inv-loop μ-loop
 loop-less c = search needs
 
--- src/lib.rt:72:5
 loop-again : tie.Need-loop-again Inv-loop μ-loop
 loop-again c = next (c .before .before .loop .inv) (search needs) refl
 
--- src/lib.rt:67:1
 returns : tie.Need-returns Inv-loop μ-loop
 unfolding sumOf
 returns c = last (c .before .loop .inv) (search needs)

@@ -11,3 +11,4 @@ pub mod Passing
 pub mod Doubles
 pub mod Repeats
 pub mod Doors
+pub mod Determined

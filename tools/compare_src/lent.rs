@@ -11,15 +11,23 @@ pub const WIDTH: usize = 28;
 pub const NO_ROOM: u64 = 14;
 
 const MOST: u64 = 27;
-const MEMORY: usize = 72;
-const COUNTS: usize = 4;
 
-/// One value with partials, or two side by side (a vector), lent for reading.
+/// How many numbers and counts lie about for so many values: some more than they need.
+fn memory(values: usize) -> usize {
+    (values * WIDTH + 16).max(72)
+}
+
+fn counts(values: usize) -> usize {
+    values.max(2) + 2
+}
+
+/// One value with partials, or several side by side (two are a vector), lent for reading.
+#[derive(Clone)]
 pub struct Lent {
     values: usize,
-    memory: [f64; MEMORY],
+    memory: Vec<f64>,
     len: usize,
-    counts: [u64; COUNTS],
+    counts: Vec<u64>,
     counts_len: usize,
 }
 
@@ -27,13 +35,13 @@ impl Lent {
     pub fn draw(random: &mut Random, flavour: Flavour, values: usize) -> Self {
         let mut lent = Lent {
             values,
-            memory: std::array::from_fn(|_| random.any()),
-            len: length(random, values * WIDTH, MEMORY),
-            counts: std::array::from_fn(|_| count(random)),
+            memory: (0..memory(values)).map(|_| random.any()).collect(),
+            len: length(random, values * WIDTH, memory(values)),
+            counts: (0..counts(values)).map(|_| count(random)).collect(),
             counts_len: values,
         };
         if values > 1 && random.once_in(16) {
-            lent.counts_len = random.below(COUNTS as u64 + 1) as usize;
+            lent.counts_len = random.below(counts(values) as u64 + 1) as usize;
         }
         for value in 0..values {
             let counted = lent.counts[value].min(MOST) as usize;
@@ -51,11 +59,17 @@ impl Lent {
 
     /// The same bits, and sometimes another count: some of the rubbish is then counted, or less of the rest.
     pub fn again(&self, random: &mut Random) -> Self {
-        let mut counts = self.counts;
+        let mut again = self.clone();
         if random.once_in(2) {
-            counts[0] = count(random);
+            again.counts[0] = count(random);
         }
-        Lent { counts, ..*self }
+        again
+    }
+
+    /// None of them has partials.
+    pub fn without_partials(mut self) -> Self {
+        self.counts.fill(0);
+        self
     }
 
     pub fn set_entry(&mut self, k: usize, to: f64) {
@@ -144,32 +158,32 @@ fn length(random: &mut Random, needed: usize, memory: usize) -> usize {
     }
 }
 
-/// Lent for the answer: one value with partials and its count, or two.
+/// Lent for the answer: one value with partials and its count, or several.
 pub struct Room {
     values: usize,
-    before: [f64; MEMORY],
-    counts_before: [u64; COUNTS],
-    pub out: [f64; MEMORY],
+    before: Vec<f64>,
+    counts_before: Vec<u64>,
+    pub out: Vec<f64>,
     pub out_len: usize,
-    pub counts: [u64; COUNTS],
+    pub counts: Vec<u64>,
     pub counts_len: usize,
 }
 
 impl Room {
     pub fn draw(random: &mut Random, values: usize) -> Self {
-        let before = std::array::from_fn(|_| random.any());
-        let counts_before = std::array::from_fn(|_| random.bits());
+        let before: Vec<f64> = (0..memory(values)).map(|_| random.any()).collect();
+        let counts_before: Vec<u64> = (0..counts(values)).map(|_| random.bits()).collect();
         let mut room = Room {
             values,
+            out: before.clone(),
+            out_len: length(random, values * WIDTH, memory(values)),
+            counts: counts_before.clone(),
+            counts_len: values,
             before,
             counts_before,
-            out: before,
-            out_len: length(random, values * WIDTH, MEMORY),
-            counts: counts_before,
-            counts_len: values,
         };
         if values > 1 && random.once_in(16) {
-            room.counts_len = random.below(COUNTS as u64 + 1) as usize;
+            room.counts_len = random.below(counts(values) as u64 + 1) as usize;
         }
         room
     }
@@ -239,10 +253,10 @@ impl Room {
     /// By bits, also behind the slices' ends.
     fn touched_from(&self, entry: usize, count: usize) -> Option<String> {
         let touched = |&k: &usize| self.out[k].to_bits() != self.before[k].to_bits();
-        if let Some(k) = (entry..MEMORY).find(touched) {
+        if let Some(k) = (entry..self.out.len()).find(touched) {
             return Some(format!("entry {k} of {} has been written", self.out_len));
         }
-        let k = (count..COUNTS).find(|&k| self.counts[k] != self.counts_before[k])?;
+        let k = (count..self.counts.len()).find(|&k| self.counts[k] != self.counts_before[k])?;
         Some(format!("count {k} of {} has been written", self.counts_len))
     }
 }

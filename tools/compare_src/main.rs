@@ -5,6 +5,8 @@
 //! The seed decides every input, so a run can be had again; the counts are divided by SHARE.
 //! A later layer adds a file with its `run` and a line to `SECTIONS`.
 
+mod asked;
+mod basis;
 mod curves;
 mod exact;
 mod hull;
@@ -16,6 +18,7 @@ mod partials;
 mod plane;
 mod plane_partials;
 mod random;
+mod records;
 mod roots;
 mod table;
 mod tally;
@@ -58,9 +61,19 @@ const SECTIONS: &[Section] = &[
         run: plane_partials::run,
     },
     Section {
+        name: "basis with partials",
+        rounds: 400_000,
+        run: basis::run,
+    },
+    Section {
         name: "curves",
         rounds: 1_000_000,
         run: curves::run,
+    },
+    Section {
+        name: "records",
+        rounds: 500_000,
+        run: records::run,
     },
     Section {
         name: "hull",

@@ -144,6 +144,23 @@ unsafe extern "C" {
     ) -> u64;
 }
 
+unsafe extern "C" {
+    pub fn threshdune_partials_basis(
+        w: *const f64,
+        w_len: usize,
+        w_counts: *const u64,
+        w_counts_len: usize,
+        t: *const f64,
+        t_len: usize,
+        t_count: u64,
+        order: u64,
+        out: *mut f64,
+        out_len: usize,
+        counts: *mut u64,
+        counts_len: usize,
+    ) -> u64;
+}
+
 // Curves.
 unsafe extern "C" {
     pub fn threshdune_build_control(
@@ -184,6 +201,14 @@ unsafe extern "C" {
         out: *mut f64,
         out_len: usize,
     ) -> u64;
+    pub fn threshdune_domain(
+        coords: *const f64,
+        coords_len: usize,
+        knots: *const f64,
+        knots_len: usize,
+        out: *mut f64,
+        out_len: usize,
+    ) -> u64;
     pub fn threshdune_samples(
         coords: *const f64,
         coords_len: usize,
@@ -194,4 +219,31 @@ unsafe extern "C" {
         out_len: usize,
         count: *mut u64,
     ) -> u64;
+}
+
+/// Declares the doors that take a record: its counts and its slices first.
+macro_rules! records {
+    ($($name:ident, ($($own:ident: $of:ty),*);)*) => {
+        unsafe extern "C" {
+            $(pub fn $name(
+                points: u64,
+                knot_count: u64,
+                xs: *const f64,
+                xs_len: usize,
+                ys: *const f64,
+                ys_len: usize,
+                knots: *const f64,
+                knots_len: usize,
+                $($own: $of),*
+            ) -> u64;)*
+        }
+    };
+}
+
+records! {
+    threshdune_record_evaluate, (t: f64, order: u64, out: *mut f64, out_len: usize);
+    threshdune_record_point_tangent, (t: f64, out: *mut f64, out_len: usize);
+    threshdune_record_length, (out: *mut f64, out_len: usize);
+    threshdune_record_domain, (out: *mut f64, out_len: usize);
+    threshdune_record_samples, (per_span: u64, out: *mut f64, out_len: usize, count: *mut u64);
 }

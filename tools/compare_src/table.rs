@@ -5,7 +5,7 @@
 use original::spline::check;
 
 /// The most control points.
-const MOST: usize = 66;
+const MOST: u64 = 66;
 
 /// An outcome is not finite.
 pub const NOT_FINITE: u64 = 15;
@@ -35,16 +35,26 @@ impl Table {
 
     /// The rows 1 to 11 for control points, over knots if there are any given.
     pub fn of_curve(coords: &[f64], knots: Option<&[f64]>) -> Self {
-        let n = coords.len() / 2;
-        let counts = Table::default()
-            .row(1, coords.len() % 2 == 1)
-            .row(2, n < 2)
-            .row(3, n == 2 || n == 3)
-            .row(4, n > MOST);
+        let counted = knots.map(|knots| (knots.len() as u64, knots));
+        Table::default().row(1, coords.len() % 2 == 1).rest(
+            coords.len() as u64 / 2,
+            counted,
+            coords,
+        )
+    }
+
+    /// The rows 2 to 11 for a record: its counts, whatever they are, and the knots and coordinates that they count, as far as
+    /// there is room for them.
+    pub fn of_record(points: u64, knot_count: u64, knots: &[f64], coords: &[f64]) -> Self {
+        Table::default().rest(points, Some((knot_count, knots)), coords)
+    }
+
+    fn rest(self, n: u64, knots: Option<(u64, &[f64])>, coords: &[f64]) -> Self {
+        let counts = self.row(2, n < 2).row(3, n == 2 || n == 3).row(4, n > MOST);
         let checked = match knots {
             None => counts,
-            Some(knots) => counts
-                .row(6, knots.len() != n + 4)
+            Some((count, knots)) => counts
+                .row(6, u128::from(count) != u128::from(n) + 4)
                 .row(7, !rising(knots))
                 .row(8, !clamped(knots))
                 .row(9, !(knots.first() < knots.last()))
@@ -64,14 +74,14 @@ fn clamped(knots: &[f64]) -> bool {
 }
 
 /// Whether one of the indices 4 to n-1 has a knot that is in the whole list more than three times.
-fn crowded(knots: &[f64], n: usize) -> bool {
+fn crowded(knots: &[f64], n: u64) -> bool {
     let often = |k: &f64| knots.iter().filter(|other| *other == k).count() > 3;
-    knots.iter().take(n).skip(4).any(often)
+    knots.iter().take(n as usize).skip(4).any(often)
 }
 
-/// What the original's `check` says of control points, as the number of document 01 that its words stand for; 0 where it
-/// accepts. Nothing where it has nothing to say: of an odd length, and of more points than the port takes.
-pub fn their_check(coords: &[f64], knots: Option<&[f64]>) -> Option<u64> {
+/// What the original's `check` says of n control points, as the number of document 01 that its words stand for; 0 where it
+/// accepts. Nothing of more points than the port takes.
+pub fn their_check(n: u64, knots: Option<&[f64]>) -> Option<u64> {
     const WORDS: [(&str, u64); 7] = [
         ("needs at least 2 points", 2),
         ("needs at least 4 control points", 3),
@@ -81,17 +91,22 @@ pub fn their_check(coords: &[f64], knots: Option<&[f64]>) -> Option<u64> {
         ("span no interval", 9),
         ("repeats more than", 10),
     ];
-    let n = coords.len() / 2;
-    if coords.len() % 2 == 1 || n > MOST {
+    if n > MOST {
         return None;
     }
-    let Err(words) = check(n, false, knots) else {
+    let Err(words) = check(n as usize, false, knots) else {
         return Some(0);
     };
     match WORDS.iter().find(|(part, _)| words.contains(part)) {
         Some((_, number)) => Some(*number),
         None => panic!("the original's check has other words: {words}"),
     }
+}
+
+/// The same of coordinates, x and y in turn: nothing of an odd number of them.
+pub fn their_check_of(coords: &[f64], knots: Option<&[f64]>) -> Option<u64> {
+    let even = coords.len() % 2 == 0;
+    even.then(|| their_check(coords.len() as u64 / 2, knots))?
 }
 
 /// Whether the two agree: the numbers that `check` knows, and those that the port adds.

@@ -151,7 +151,7 @@ pub fn refused_handles(coords: &[f64], fit: bool, given: bool, knots: &[f64]) ->
 }
 
 // The curve of control points x, y in turn, by the rules 1 to 11.
-fn assemble(coords: &[f64], given: bool, knots: &[f64]) -> Built
+pub fn assemble(coords: &[f64], given: bool, knots: &[f64]) -> Built
     ensures { λ r. ⌜ r .refusal .number ≡ firstOf (sliceRules (now (coords .entry)) given (now (knots .entry))) ⌝ }
     ensures { λ r. ⌜ r .curve ≡ builtBy (sliceRules (now (coords .entry)) given (now (knots .entry))) (controlCurve (now (coords .entry)) given (now (knots .entry))) ⌝ }
 {

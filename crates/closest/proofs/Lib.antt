@@ -1,0 +1,8 @@
+-- Laws of the search.
+pub mod Steps
+pub mod Falls
+pub mod Folded
+pub mod Answers
+pub mod Judged
+pub mod Least
+pub mod Nans

@@ -1,0 +1,65 @@
+-- One sample and one round, from what the code calls for them. Assumes nothing.
+use mathlib.Core.Path.{_≡_, ap, _∙_}
+use mathlib.Core.Bool.{Bool, true, false, _&&_}
+use mathlib.Core.List.{List}
+use Prim.Native.Nat.{ℕ, _+_, _-_}
+use lib.ListN.{take}
+use lib.Ieee.{Float, lt, le}
+use lib.Ieee.Scale.{finite}
+use Rattle.meaning.specs.Scalar.{plain, zero64}
+use Rattle.meaning.specs.Table.{at1}
+use Rattle.meaning.specs.Number.{sizeOf, clampOf}
+use Rattle.knots.specs.Halving.{halvedOf}
+use Rattle.knots.proofs.Accepted.{Accepted}
+use Rattle.knots.proofs.Spans.{accepted-span}
+use Rattle.plane.specs.Vector.{Vector, subV, dotV}
+use Rattle.evaluate.specs.Point.{Shape, ordersOf}
+use Rattle.evaluate.proofs.Places.{same-span}
+use Rattle.curve.specs.Evaluate.{pointOrders}
+use Rattle.closest.specs.Distance.{distanceOf}
+use Rattle.closest.specs.Search.{orderIn, still, from, to, distanceAt, sampled, slopeAt, roundOf}
+use Rattle.closest.specs.declared.Nearest.{Nearest}
+use Rattle.closest.specs.declared.Slope.{Slope}
+use Rattle.closest.specs.declared.Progress.{Progress}
+
+module _ (c : Shape Float) (good : Accepted (take (c .n + 4) (c .knots)) (c .n)) where
+  -- the span that the code finds is document 01's
+  pub orders-are : (t : Float) (nd : ℕ) → ordersOf plain (halvedOf (c .knots) (c .n)) c t nd ≡ pointOrders c t nd
+  orders-are t nd = same-span plain c t nd (λ x. accepted-span (c .knots) (c .n) x good)
+
+  module _ (p : Vector Float) (t : Float) where
+    pub distance-is : {at : List Float} {d : Float} → at ≡ ordersOf plain (halvedOf (c .knots) (c .n)) c t 0 → d ≡ distanceOf (orderIn at 0) p → d ≡ distanceAt c p t
+    unfolding distanceAt
+    distance-is e q = q ∙ ap (λ (l : List Float). distanceOf (orderIn l 0) p) (e ∙ orders-are t 0)
+
+    pub slope-is : {at : List Float} {w : Vector Float} {f s : Float} → at ≡ ordersOf plain (halvedOf (c .knots) (c .n)) c t 2 → w ≡ subV plain (orderIn at 0) p
+        → f ≡ dotV plain w (orderIn at 1) → s ≡ dotV plain (orderIn at 1) (orderIn at 1)
+        → _≡_ {A = Slope} (record { f = f; df = plain .plus (plain .plus s (plain .times (w .x) (at1 plain at 4))) (plain .times (w .y) (at1 plain at 5)) }) (slopeAt c p t)
+    unfolding slopeAt
+    slope-is e q g h = rw (← orders-are t 2, ← e, g, h, q)
+
+module _ (c : Shape Float) (p : Vector Float) where
+  -- a sample that is nearer, and one that is not
+  module _ (b : Nearest) (t : Float) {d : Float} (e : d ≡ distanceAt c p t) {fine : Bool} (q : fine ≡ (b .fine && finite d)) where
+    pub taken : lt d (b .d) ≡ true → _≡_ {A = Nearest} (record { t = t; d = d; fine = fine }) (sampled c p b t)
+    unfolding sampled
+    taken h = rw (← e, h, q)
+
+    pub passed : lt d (b .d) ≡ false → _≡_ {A = Nearest} (record { t = b .t; d = b .d; fine = fine }) (sampled c p b t)
+    unfolding sampled
+    passed h = rw (← e, h, q)
+
+  -- the last round and another
+  module _ (s : Progress) {g : Slope} (e : g ≡ slopeAt c p (s .t)) where
+    pub no-descent : le (g .df) zero64 ≡ true → _≡_ {A = Progress} (record { t = s .t; left = 0 }) (roundOf c p s)
+    unfolding roundOf
+    no-descent h = rw (← e, h)
+
+    module _ (h : le (g .df) zero64 ≡ false) {next size : Float} (q : next ≡ clampOf (plain .minus (s .t) (plain .over (g .f) (g .df))) (from c) (to c)) (r : size ≡ sizeOf (plain .minus next (s .t))) where
+      pub arrived : lt size still ≡ true → _≡_ {A = Progress} (record { t = next; left = 0 }) (roundOf c p s)
+      unfolding roundOf
+      arrived k = rw (← e, h, ← q, ← r, k)
+
+      pub moved : lt size still ≡ false → _≡_ {A = Progress} (record { t = next; left = s .left - 1 }) (roundOf c p s)
+      unfolding roundOf
+      moved k = rw (← e, h, ← q, ← r, k)

@@ -1,0 +1,8 @@
+-- The distance of two points. Document 01, "Closest parameter", decides: the root of (dx·dx + dy·dy), in place of document 000's `hypot`. Whoever asks
+-- for a distance asks for it by this name.
+use lib.Ieee.{Float}
+use Rattle.meaning.specs.Scalar.{plain}
+use Rattle.plane.specs.Vector.{Vector, subV, dotV}
+
+unfoldable pub distanceOf : Vector Float → Vector Float → Float
+distanceOf a b = let d = subV plain a b in plain .root (dotV plain d d)

@@ -1,0 +1,106 @@
+-- The search for the closest parameter. Document 01, "Closest parameter", decides; in a round document 000's `closest_param` decides the order of the
+-- operations. Three structs of the code have the states: `Nearest` is the nearest sample so far, its distance, and whether every distance so far is
+-- finite; `Slope` is what a round divides; `Progress` is a parameter and how many rounds may follow.
+use mathlib.Core.Bool.{Bool, true, false, not, _&&_, _||_, cond}
+use mathlib.Core.List.{List, [], _∷_}
+use Prim.Native.Nat.{ℕ, _+_, _-_, _*_}
+use lib.Dec.{ltb}
+use lib.Ieee.{Float, binary64, inf, lt, le, isNan, ofBits}
+use lib.Ieee.Scale.{finite}
+use Rattle.meaning.specs.Scalar.{plain, zero64}
+use Rattle.meaning.specs.Table.{at1}
+use Rattle.meaning.specs.Loops.{rest}
+use Rattle.meaning.specs.Number.{sizeOf, clampOf}
+use Rattle.meaning.specs.Refusals.{Row, row}
+use Rattle.plane.specs.Vector.{Vector, subV, dotV}
+use Rattle.evaluate.specs.Point.{Shape}
+use Rattle.curve.specs.Evaluate.{pointOrders}
+use Rattle.curve.specs.Samples.{samplesOf}
+use Rattle.closest.specs.Distance.{distanceOf}
+use Rattle.closest.specs.declared.Nearest.{Nearest}
+use Rattle.closest.specs.declared.Slope.{Slope}
+use Rattle.closest.specs.declared.Progress.{Progress}
+
+-- what f makes of a list's numbers, one after the other, from s on
+unfoldable pub through : {S : Type 0} → (S → Float → S) → List Float → S → S
+through f [] s = s
+through f (t ∷ ts) s = through f ts (f s t)
+
+-- order k of those that stand x, y in turn
+abbrev pub orderIn : List Float → ℕ → Vector Float
+orderIn d k = record { x = at1 plain d (2 * k); y = at1 plain d (2 * k + 1) }
+
+-- a move below this is the last: 1e-15
+abbrev pub still : Float
+still = ofBits binary64 0x3cd2_03af_9ee7_5616
+
+-- the ends of the domain
+abbrev pub from : Shape Float → Float
+from c = at1 plain (c .knots) 0
+
+abbrev pub to : Shape Float → Float
+to c = at1 plain (c .knots) (c .n + 3)
+
+-- a round is left
+abbrev pub unfinished : Progress → Bool
+unfinished s = ltb 0 (s .left)
+
+module _ (c : Shape Float) (p : Vector Float) where
+  -- ---- the samples
+
+  -- how far the curve's point at t lies from p
+  unfoldable pub distanceAt : Float → Float
+  distanceAt t = distanceOf (orderIn (pointOrders c t 0) 0) p
+
+  -- A sample takes the place of the nearest so far only where its distance is less, so that of equal ones the first stays.
+  unfoldable pub sampled : Nearest → Float → Nearest
+  sampled b t =
+      let d = distanceAt t in
+      let nearer = lt d (b .d) in
+      record { t = cond nearer t (b .t); d = cond nearer d (b .d); fine = b .fine && finite d }
+
+  -- before the first sample: every finite distance is less
+  abbrev pub unsampled : Nearest
+  unsampled = record { t = from c; d = inf false; fine = true }
+
+  -- 16 samples for each knot pair that rises, and the domain's end
+  unfoldable pub nearestSample : Nearest
+  nearestSample = through sampled (samplesOf c 16) unsampled
+
+  -- ---- Newton's rounds on (C - p)·C' = 0
+
+  -- (C - p)·C' at t and its derivative, C'·C' + (C - p)·C''
+  unfoldable pub slopeAt : Float → Slope
+  slopeAt t =
+      let d = pointOrders c t 2 in
+      let w = subV plain (orderIn d 0) p in
+      let c1 = orderIn d 1 in
+      let c2 = orderIn d 2 in
+      record {
+        f = dotV plain w c1;
+        df = plain .plus (plain .plus (dotV plain c1 c1) (plain .times (w .x) (c2 .x))) (plain .times (w .y) (c2 .y));
+      }
+
+  -- one round; it is the last where the derivative is 0 or less, which leaves t as it is, or where the move is small
+  unfoldable pub roundOf : Progress → Progress
+  roundOf s =
+      let g = slopeAt (s .t) in
+      let next = clampOf (plain .minus (s .t) (plain .over (g .f) (g .df))) (from c) (to c) in
+      cond (le (g .df) zero64)
+      (record { t = s .t; left = 0 })
+      (record { t = next; left = cond (lt (sizeOf (plain .minus next (s .t))) still) 0 (s .left - 1) })
+
+  -- at most 30 rounds from t on
+  unfoldable pub newtonFrom : Float → Float
+  newtonFrom t = rest unfinished roundOf (λ s. s .left) (record { t = t; left = 30 }) .t
+
+  -- ---- the parameter, and the refusals that follow those of the curve
+
+  unfoldable pub closestOf : Float
+  closestOf = newtonFrom (nearestSample .t)
+
+  unfoldable pub searchRules : List Row
+  searchRules =
+      row 11 (not (finite (p .x)) || not (finite (p .y)))
+      ∷ row 15 (not (nearestSample .fine) || isNan closestOf)
+      ∷ []

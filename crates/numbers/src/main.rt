@@ -1,0 +1,78 @@
+// Document 01's numbers to check by that are not starred, run: the closest parameters of A and B, the orders that are accepted, and the fits that are
+// accepted and refused. Each line has what is asked and the answer; `stdout` has document 01's answers.
+use closest::Found;
+use curve::Built;
+use libc::STDOUT_FILENO;
+
+// (0,0), (0,8), (8,8), (8,0)
+fn a() -> [f64; 8] {
+    [0.0, 0.0, 0.0, 8.0, 8.0, 8.0, 8.0, 0.0]
+}
+
+// (0,0), (1,2), (2,4), (3,6)
+fn b() -> [f64; 8] {
+    [0.0, 0.0, 1.0, 2.0, 2.0, 4.0, 3.0, 6.0]
+}
+
+// The curve with these control points over uniform knots.
+fn uniform(points: &[f64; 8]) -> Built {
+    curve::build_control(points, false, &[])
+}
+
+// Writes the word and the number, or that there is none.
+fn print_refusal(number: u64) {
+    if number == 0 {
+        io::write_all(STDOUT_FILENO, b"accepted\n");
+    } else {
+        io::write_all(STDOUT_FILENO, b"refused ");
+        io::print_decimal(STDOUT_FILENO, number);
+        io::write_all(STDOUT_FILENO, b"\n");
+    }
+}
+
+// Writes the bits of a parameter, or the refusal.
+fn print_found(f: Found) {
+    match f {
+        Found::At(t) => {
+            if t == t {
+                io::print_hex(STDOUT_FILENO, f64::to_bits(t), 16);
+            }
+            io::write_all(STDOUT_FILENO, b"\n");
+        }
+        Found::Refused(number) => print_refusal(number),
+    }
+}
+
+// Writes whether an order is accepted.
+fn print_order(order: usize) {
+    let curve = uniform(&a()).curve;
+    let mut out = [0.0; 12];
+    print_refusal(curve::evaluate(curve, 0.25, order, &mut out).number);
+}
+
+// Writes whether a fit through these points is accepted.
+fn print_fit(points: &[f64]) {
+    let mut work = [0.0; 35];
+    print_refusal(
+        fit::build(points, true, false, &[], &mut work)
+            .refusal
+            .number,
+    );
+}
+
+fn main() {
+    io::write_all(STDOUT_FILENO, b"B closest to (-6,0): ");
+    print_found(closest::closest(uniform(&b()).curve, -6.0, 0.0));
+    io::write_all(STDOUT_FILENO, b"B closest to (1.5,3): ");
+    print_found(closest::closest(uniform(&b()).curve, 1.5, 3.0));
+    io::write_all(STDOUT_FILENO, b"A closest to (4,0): ");
+    print_found(closest::closest(uniform(&a()).curve, 4.0, 0.0));
+    io::write_all(STDOUT_FILENO, b"order 4: ");
+    print_order(4);
+    io::write_all(STDOUT_FILENO, b"order 5: ");
+    print_order(5);
+    io::write_all(STDOUT_FILENO, b"fit (0,0),(1e200,0),(0,0): ");
+    print_fit(&[0.0, 0.0, 1e200, 0.0, 0.0, 0.0]);
+    io::write_all(STDOUT_FILENO, b"fit (0,0),(1e200,0): ");
+    print_fit(&[0.0, 0.0, 1e200, 0.0]);
+}

@@ -30,15 +30,20 @@ fn print_refusal(number: u64) {
     }
 }
 
-// Writes the bits of a parameter, or the refusal.
+// Writes the bits of a parameter, or a word for a NaN, which has no bits of its own.
+fn print_parameter(t: f64) {
+    if t == t {
+        io::print_hex(STDOUT_FILENO, f64::to_bits(t), 16);
+    } else {
+        io::write_all(STDOUT_FILENO, b"nan");
+    }
+    io::write_all(STDOUT_FILENO, b"\n");
+}
+
+// Writes the parameter, or the refusal.
 fn print_found(f: Found) {
     match f {
-        Found::At(t) => {
-            if t == t {
-                io::print_hex(STDOUT_FILENO, f64::to_bits(t), 16);
-            }
-            io::write_all(STDOUT_FILENO, b"\n");
-        }
+        Found::At(t) => print_parameter(t),
         Found::Refused(number) => print_refusal(number),
     }
 }

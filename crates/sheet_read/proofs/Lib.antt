@@ -1,0 +1,4 @@
+-- What the proofs of the functions share.
+pub mod Every
+pub mod Numerals
+pub mod Sections

@@ -1,0 +1,52 @@
+-- `sheet_read::digit` meets its contract: each range has its own difference.
+use borrow.Author.Needs.{needs}
+use mathlib.Core.Path.{sym, _∙_}
+use native.Mathlib.Omega.{arith}
+use Rattle.sheet_read.proofs.Numerals.{not-below, decimal-is, letter-is, no-digit}
+use Rattle.sheet_read.proofs.digit.Statement.{statement}
+use Rattle.sheet_read.proofs.digit.Tie as tie
+
+lies-within-requires : tie.Need-lies-within-requires
+lies-within-requires c κs = search needs
+
+sub-result : tie.Need-sub-result
+sub-result c = omega (arith, not-below 48 57 (c .before .before .args .b) (sym (c .before .lies-within .ensures) ∙ c .if1 .taken))
+
+cast-result : tie.Need-cast-result
+cast-result c = search needs
+
+returns : tie.Need-returns
+returns c = sym (decimal-is _ (sym (c .before .lies-within .ensures) ∙ c .if1 .taken))
+
+lies-within-requires-2 : tie.Need-lies-within-requires-2
+lies-within-requires-2 c κs = search needs
+
+sub-result-2 : tie.Need-sub-result-2
+sub-result-2 c = omega (arith, not-below 65 70 (c .before .before .before .before .args .b) (sym (c .before .lies-within2 .ensures) ∙ c .if2 .taken))
+
+cast-result-2 : tie.Need-cast-result-2
+cast-result-2 c = search needs
+
+returns-2 : tie.Need-returns-2
+returns-2 c =
+    let t = c .before .before in
+    sym (letter-is _ (sym (t .before .lies-within .ensures) ∙ t .if1 .left) (sym (c .before .lies-within2 .ensures) ∙ c .if2 .taken))
+
+returns-3 : tie.Need-returns-3
+returns-3 c =
+    let t = c .before .before in
+    sym (no-digit _ (sym (t .before .lies-within .ensures) ∙ t .if1 .left) (sym (c .before .lies-within2 .ensures) ∙ c .if2 .left))
+
+pub digit-spec : {M : Type 1} → statement M
+digit-spec =
+    tie.close
+    (tie.spec
+    lies-within-requires
+    sub-result
+    cast-result
+    returns
+    lies-within-requires-2
+    sub-result-2
+    cast-result-2
+    returns-2
+    returns-3)

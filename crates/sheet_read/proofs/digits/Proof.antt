@@ -1,0 +1,65 @@
+-- `sheet_read::digits` meets its contract: each byte passed is a digit.
+use borrow.Author.Needs.{needs}
+use mathlib.Core.Path.{_≡_, sym, ap, _∙_}
+use mathlib.Core.Bool.{Bool, not}
+use Prim.Native.Nat.{ℕ, _+_, _-_}
+use Rattle.knots.proofs.Searching.{Passed, passed, onward, found, ended}
+use Rattle.sheet_read.specs.Text.{byteAt}
+use Rattle.sheet_read.specs.Number.{isDecimal, digitsAt}
+use Rattle.sheet_read.proofs.digits.Statement.{statement}
+use Rattle.sheet_read.proofs.digits.Tie as tie
+
+abbrev Inv-loop : tie.InvT-loop
+Inv-loop s at i₀ i = Passed (λ k. not (isDecimal (byteAt s (at + k)))) 0 4 i
+
+abbrev μ-loop : tie.MeasureT-loop
+μ-loop s at i₀ i = 4 - i
+
+loop-holds : tie.Need-loop-holds Inv-loop μ-loop
+loop-holds c = passed (search needs)
+
+add-byte : tie.Need-add-byte Inv-loop μ-loop
+add-byte c = search needs
+
+byte-requires : tie.Need-byte-requires Inv-loop μ-loop
+byte-requires c κs = search needs
+
+lies-within-requires : tie.Need-lies-within-requires Inv-loop μ-loop
+lies-within-requires c κs = search needs
+
+returns : tie.Need-returns Inv-loop μ-loop
+unfolding digitsAt
+returns c =
+    let l = c .before .before .before .before .loop in
+    found (l .inv) (search needs) (ap not (ap isDecimal (sym (c .before .before .byte .ensures)) ∙ sym (c .before .lies-within .ensures)) ∙ c .if1 .taken)
+
+add-i : tie.Need-add-i Inv-loop μ-loop
+add-i c = search needs
+
+loop-less : tie.Need-loop-less Inv-loop μ-loop
+loop-less c = search needs
+
+loop-again : tie.Need-loop-again Inv-loop μ-loop
+loop-again c =
+    let l = c .before .before .before .before .loop in
+    onward (l .inv) (search needs) (ap not (ap isDecimal (sym (c .before .before .byte .ensures)) ∙ sym (c .before .lies-within .ensures)) ∙ c .if1 .left)
+
+returns-2 : tie.Need-returns-2 Inv-loop μ-loop
+unfolding digitsAt
+returns-2 c = ended (c .before .loop .inv) (search needs)
+
+pub digits-spec : {M : Type 1} → statement M
+digits-spec =
+    tie.close
+    (tie.spec
+    Inv-loop
+    μ-loop
+    loop-holds
+    add-byte
+    byte-requires
+    lies-within-requires
+    returns
+    add-i
+    loop-less
+    loop-again
+    returns-2)

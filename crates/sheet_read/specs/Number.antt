@@ -1,0 +1,58 @@
+-- How a sheet writes a number. Document 01, "The sheet program", decides: counts are decimal without leading zeros, doubles are 16 upper-case
+-- hexadecimal digits of their bits.
+use Prim.Native.Nat.{ℕ, _+_, _-_, _*_}
+use mathlib.Core.Bool.{Bool, not, _&&_, _||_, cond}
+use mathlib.Core.List.{List}
+use lib.Dec.{leb, eqb}
+use lib.Ieee.{Float, binary64, ofBits}
+use Rattle.meaning.specs.Loops.{run}
+use Rattle.knots.specs.Search.{seek}
+use Rattle.sheet_read.specs.Text.{text, byteAt, every}
+
+abbrev pub within : ℕ → ℕ → ℕ → Bool
+within lo hi b = leb lo b && leb b hi
+
+-- the bytes `0` to `9`, and `A` to `F`
+abbrev pub isDecimal : ℕ → Bool
+isDecimal b = within 48 57 b
+
+abbrev pub isLetter : ℕ → Bool
+isLetter b = within 65 70 b
+
+abbrev pub isHex : ℕ → Bool
+isHex b = isDecimal b || isLetter b
+
+-- what a digit stands for, and 0 for a byte that is none
+unfoldable pub digitOf : ℕ → ℕ
+digitOf b = cond (isDecimal b) (b - 48) (cond (isLetter b) (b - 55) 0)
+
+-- the number that n digits from `at` on write, the most significant first
+unfoldable pub numberAt : ℕ → List ℕ → ℕ → ℕ → ℕ
+unfolding digitOf
+numberAt base s n at = run 0 n (λ i v. v * base + digitOf (byteAt s (at + i))) 0
+
+-- ---- a count
+
+-- how many decimal digits stand from `at` on; no count has more than four
+unfoldable pub digitsAt : List ℕ → ℕ → ℕ
+digitsAt s at = seek 0 4 (λ i. not (isDecimal (byteAt s (at + i))))
+
+abbrev pub countAt : List ℕ → ℕ → ℕ
+countAt s at = numberAt 10 s (digitsAt s at) at
+
+-- a digit, no zero before another digit, a count of at most `most`, and the end of the line
+unfoldable pub countStands : List ℕ → ℕ → ℕ → Bool
+unfolding digitsAt numberAt
+countStands s most at =
+    let d = digitsAt s at in
+    leb 1 d && ((eqb d 1 || not (eqb (byteAt s at) 48)) && (leb (countAt s at) most && eqb (byteAt s (at + d)) 10))
+
+-- ---- a double
+
+-- 16 digits, and after them the byte e
+unfoldable pub doubleStands : List ℕ → ℕ → ℕ → Bool
+doubleStands s e at = every 16 (λ i. isHex (byteAt s (at + i))) && eqb (byteAt s (at + 16)) e
+
+unfoldable pub doubleAt : List ℕ → ℕ → Float
+unfolding numberAt ofBits
+doubleAt s at = ofBits binary64 (numberAt 16 s 16 at)

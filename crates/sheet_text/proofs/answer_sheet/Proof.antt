@@ -1,0 +1,82 @@
+-- `sheet_text::answer_sheet` meets its contract: the numbers of the sheet are read, built and printed.
+use borrow.Author.Needs.{needs}
+use mathlib.Core.Path.{_≡_, sym, ap, _∙_}
+use mathlib.Core.List.{List}
+use native.Mathlib.Omega.{arith}
+use lib.ListN.{length}
+use Rattle.sheet_text.specs.Answer.{sheetText}
+use Rattle.sheet_text.proofs.Front.{numbers-long}
+use Rattle.sheet_text.proofs.Sheets.{text-built, work-built}
+use denote.Ref.{now}
+use Rattle.sheet_text.proofs.answer_sheet.Statement.{statement}
+use Rattle.sheet_text.proofs.answer_sheet.Tie as tie
+
+mul-n : tie.Need-mul-n
+mul-n c = search needs
+
+slice-aggregate-take-numbers : tie.Need-slice-aggregate-take-numbers
+slice-aggregate-take-numbers c = search needs
+
+take-numbers-requires : tie.Need-take-numbers-requires
+take-numbers-requires c κs = search needs
+
+slice-aggregate-take-numbers-2 : tie.Need-slice-aggregate-take-numbers-2
+slice-aggregate-take-numbers-2 c = search needs
+
+take-numbers-requires-2 : tie.Need-take-numbers-requires-2
+take-numbers-requires-2 c κs = search needs
+
+array-share-prefix-points : tie.Need-array-share-prefix-points
+array-share-prefix-points c = search needs
+
+slice-aggregate-build : tie.Need-slice-aggregate-build
+slice-aggregate-build c = sym (ap length (c .before .before .before .before .before .take-numbers .ensures) ∙ numbers-long _ _ _)
+
+array-share-prefix-knots : tie.Need-array-share-prefix-knots
+array-share-prefix-knots c = search needs
+
+slice-aggregate-build-2 : tie.Need-slice-aggregate-build-2
+slice-aggregate-build-2 c = sym (ap length (c .before .before .before .take-numbers2 .ensures) ∙ numbers-long _ _ _)
+
+build-requires : tie.Need-build-requires
+build-requires c κs = search needs
+
+put-built-requires : tie.Need-put-built-requires
+put-built-requires c κs =
+    let l = c .before .before .before .before .before .before .before .before .before .before .before .before .before .before .before .before .before .pre .0 in
+    omega (arith, l .parameters .0, l .parameters .1)
+
+same-length : tie.Need-same-length
+same-length c = search needs
+
+same-length-2 : tie.Need-same-length-2
+same-length-2 c = search needs
+
+returns : tie.Need-returns
+returns c =
+    let b = c .before .before .before .before .before .before in
+    let k = b .before .before .before .before .before in
+    let p = k .before .before .before in
+    let a = p .before .before .before .before .before .before .args in (
+      rw (← (text-built (now (a .s)) (a .x) (now (a .work)) (p .take-numbers .ensures) (k .take-numbers2 .ensures) (b .build .ensures))) (c .before .before .put-built .ensures),
+      work-built (now (a .s)) (a .x) (now (a .work)) (p .take-numbers .ensures) (k .take-numbers2 .ensures) (b .build .ensures),
+    )
+
+pub answer-sheet-spec : {M : Type 1} → statement M
+answer-sheet-spec =
+    tie.close
+    (tie.spec
+    mul-n
+    slice-aggregate-take-numbers
+    take-numbers-requires
+    slice-aggregate-take-numbers-2
+    take-numbers-requires-2
+    array-share-prefix-points
+    slice-aggregate-build
+    array-share-prefix-knots
+    slice-aggregate-build-2
+    build-requires
+    put-built-requires
+    same-length
+    same-length-2
+    returns)

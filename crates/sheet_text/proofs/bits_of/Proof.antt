@@ -1,0 +1,29 @@
+-- `sheet_text::bits_of` meets its contract: what does not equal itself is the one NaN.
+use borrow.Author.Needs.{needs}
+use mathlib.Core.Path.{_≡_, refl, sym, subst, ap}
+use mathlib.Core.Bool.{true, false, not}
+use lib.Dec.{T}
+use lib.Ieee.{Float, nan, inf, fin, binary64, eq, ne, isNan, toBits}
+use lib.Ieee.Compare.{differs-from-itself}
+use Rattle.knots.proofs.Tests.{no}
+use Rattle.sheet_text.proofs.bits_of.Statement.{statement}
+use Rattle.sheet_text.proofs.bits_of.Tie as tie
+
+number : (x : Float) → ne x x ≡ false → T (not (isNan x))
+unfolding ne eq isNan
+number nan e = no (sym e)
+number (inf s) e = tt
+number (fin s m k) e = tt
+
+returns : tie.Need-returns
+unfolding toBits
+returns c = ap (toBits binary64) (sym (differs-from-itself (c .before .args .x) (subst T (sym (c .if1 .taken)) tt)))
+
+float-to-bits-result : tie.Need-float-to-bits-result
+float-to-bits-result c = number (c .before .args .x) (c .if1 .left)
+
+returns-2 : tie.Need-returns-2
+returns-2 c = search needs
+
+pub bits-of-spec : {M : Type 1} → statement M
+bits-of-spec = tie.close (tie.spec returns float-to-bits-result returns-2)

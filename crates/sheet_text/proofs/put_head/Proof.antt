@@ -1,0 +1,51 @@
+-- `sheet_text::put_head` meets its contract: its parts follow one another.
+use borrow.Author.Needs.{needs}
+use native.Mathlib.Omega.{arith}
+use Rattle.sheet_text.specs.Printed.{headText}
+use Rattle.sheet_text.proofs.Putting.{joined, few-decimal}
+use Rattle.sheet_text.proofs.put_head.Statement.{statement}
+use Rattle.sheet_text.proofs.put_head.Tie as tie
+
+slice-aggregate-put-number : tie.Need-slice-aggregate-put-number
+slice-aggregate-put-number c = search needs
+
+put-number-requires : tie.Need-put-number-requires
+put-number-requires c κs = search needs
+
+slice-aggregate-put-number-2 : tie.Need-slice-aggregate-put-number-2
+slice-aggregate-put-number-2 c = search needs
+
+put-number-requires-2 : tie.Need-put-number-requires-2
+put-number-requires-2 c κs =
+    let s = c .before .before .before .before .before .before .before .before in
+    omega (arith, few-decimal (s .args .points))
+
+slice-aggregate-put : tie.Need-slice-aggregate-put
+slice-aggregate-put c = search needs
+
+put-requires : tie.Need-put-requires
+put-requires c κs =
+    let s = c .before .before .before .before .before .before .before .before .before .before .before .before .before in
+    omega (arith, few-decimal (s .args .points), few-decimal (s .args .knots))
+
+same-length : tie.Need-same-length
+same-length c = search needs
+
+returns : tie.Need-returns
+unfolding headText
+returns c =
+    let k = c .before .before .before .before .before .before .before in
+    joined (k .before .before .before .before .before .put-number .ensures) (joined (k .put-number2 .ensures) (c .before .before .put .ensures))
+
+pub put-head-spec : {M : Type 1} → statement M
+put-head-spec =
+    tie.close
+    (tie.spec
+    slice-aggregate-put-number
+    put-number-requires
+    slice-aggregate-put-number-2
+    put-number-requires-2
+    slice-aggregate-put
+    put-requires
+    same-length
+    returns)

@@ -1,0 +1,75 @@
+-- `sheet_text::put_lines` meets its contract: a turn prints one line.
+use borrow.Author.Needs.{needs}
+use mathlib.Core.Path.{_≡_, sym, _∙_}
+use Prim.Native.Nat.{_-_, _≤_}
+use native.Mathlib.Omega.{arith}
+use denote.Ref.{now}
+use lib.ListN.{length}
+use Rattle.sheet_read.specs.Grammar.{numbersAt}
+use Rattle.sheet_text.proofs.Front.{numbers-long, number-is}
+use Rattle.sheet_text.proofs.Lines.{Printed, printed-first, printed-next, printed-all}
+use Rattle.sheet_text.proofs.put_lines.Statement.{statement}
+use Rattle.sheet_text.proofs.put_lines.Tie as tie
+
+abbrev Inv-loop : tie.InvT-loop
+Inv-loop out₀ at c s start n next₀ j₀ out next j = (j ≤ n) × Printed c (numbersAt s start n) out₀ at j out next
+
+abbrev μ-loop : tie.MeasureT-loop
+μ-loop out₀ at c s start n next₀ j₀ out next j = n - j
+
+loop-holds : tie.Need-loop-holds Inv-loop μ-loop
+loop-holds c = (search needs, printed-first _ (search needs))
+
+mul-double : tie.Need-mul-double Inv-loop μ-loop
+mul-double c = search needs
+
+add-double : tie.Need-add-double Inv-loop μ-loop
+add-double c = search needs
+
+double-requires : tie.Need-double-requires Inv-loop μ-loop
+double-requires c κs = search needs
+
+put-line-requires : tie.Need-put-line-requires Inv-loop μ-loop
+put-line-requires c κs =
+    let p = c .before .before .before .loop .inv .1 in
+    omega (arith, p .put .place, p .put .long, p .few)
+
+add-j : tie.Need-add-j Inv-loop μ-loop
+add-j c = search needs
+
+loop-less : tie.Need-loop-less Inv-loop μ-loop
+loop-less c = omega arith
+
+loop-again : tie.Need-loop-again Inv-loop μ-loop
+loop-again c =
+    let l = c .before .before .before .before .before .before .loop in
+    let a = c .before .before .before .before .before .before .before .before .before .args in (
+      omega arith,
+      printed-next _ (l .inv .1) (omega (arith, numbers-long (now (a .s)) (a .start) (a .n)))
+          (c .before .before .before .double .ensures ∙ number-is (now (a .s)) (a .start) (a .n) (l .j) (omega arith)) (c .before .before .put-line .ensures),
+    )
+
+same-length : tie.Need-same-length Inv-loop μ-loop
+same-length c = c .before .loop .inv .1 .put .long
+
+returns : tie.Need-returns Inv-loop μ-loop
+returns c =
+    let a = c .before .before .before .before .args in
+    printed-all _ (c .before .loop .inv .1) (omega (arith, numbers-long (now (a .s)) (a .start) (a .n)))
+
+pub put-lines-spec : {M : Type 1} → statement M
+put-lines-spec =
+    tie.close
+    (tie.spec
+    Inv-loop
+    μ-loop
+    loop-holds
+    mul-double
+    add-double
+    double-requires
+    put-line-requires
+    add-j
+    loop-less
+    loop-again
+    same-length
+    returns)

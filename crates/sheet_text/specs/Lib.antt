@@ -1,0 +1,4 @@
+-- What is printed of a sheet.
+pub mod Printed
+pub mod Curves
+pub mod Answer

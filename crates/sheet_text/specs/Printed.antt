@@ -1,0 +1,56 @@
+-- What the answer to a sheet is made of. Document 01, "The sheet program", decides.
+use mathlib.Core.Path.{_≡_}
+use mathlib.Core.Bool.{cond}
+use mathlib.Core.List.{List, [], _∷_, _++_}
+use Prim.Native.String.{String}
+use Prim.Native.Nat.{ℕ, _+_, _-_, _*_, _/_, _%_, _^_, _≤_}
+use lib.ListN.{length}
+use lib.Seq.{paste}
+use lib.Dec.{ltb}
+use lib.Ieee.{Float, binary64, toBits}
+use Rattle.knots.specs.Search.{listed}
+use Rattle.sheet_read.specs.Text.{text}
+
+-- the byte of a digit: `0` to `9`, then `A` to `F`
+abbrev pub glyph : ℕ → ℕ
+glyph d = cond (ltb d 10) (48 + d) (55 + d)
+
+-- 64 bits as 16 digits, four bits to each
+unfoldable pub hexText : ℕ → List ℕ
+unfolding listed
+hexText b = listed 0 16 (λ i. glyph (b / 2 ^ (60 - 4 * i) % 16))
+
+-- a number below 100, as every count and refusal is
+unfoldable pub decimalText : ℕ → List ℕ
+decimalText n = cond (ltb n 10) (glyph n ∷ []) (glyph (n / 10 % 10) ∷ glyph (n % 10) ∷ [])
+
+unfoldable pub doubleText : Float → List ℕ
+unfolding hexText toBits
+doubleText x = hexText (toBits binary64 x)
+
+-- ---- the three kinds of lines
+
+-- a word, and a number after it
+abbrev pub worded : String → List ℕ → List ℕ
+worded w number = text w ++ number
+
+unfoldable pub refusalText : ℕ → List ℕ
+unfolding decimalText
+refusalText number = worded "r " (decimalText number) ++ text "\n"
+
+unfoldable pub headText : ℕ → ℕ → List ℕ
+unfolding decimalText
+headText points knots = worded "curve " (decimalText points) ++ (worded " " (decimalText knots) ++ text "\n")
+
+unfoldable pub pointText : Float → Float → List ℕ
+unfolding doubleText
+pointText x y = worded "p " (doubleText x) ++ (worded " " (doubleText y) ++ text "\n")
+
+-- ---- into a lent slice
+
+-- there was room for the text w from index `at` on, and `out` holds it there afterwards; `at′` is the index after it
+pub record Put (out : List ℕ) (at : ℕ) (w : List ℕ) (out′ : List ℕ) (at′ : ℕ) : Type 0 where
+  pub room : at + length w ≤ length out
+  pub long : length out′ ≡ length out
+  pub bytes : out′ ≡ paste out at w (length w)
+  pub place : at′ ≡ at + length w

@@ -113,6 +113,14 @@ uint64_t threshdune_partials_basis(const double *w, size_t w_len, const uint64_t
  * For n control points writes 2n numbers into `control`, x and y in turn, and n + 4 into `knots_out`: 14 where either is too short; 15. */
 uint64_t threshdune_build_control(const double *coords, size_t coords_len, uint64_t given, const double *knots, size_t knots_len,
                                   double *control, size_t control_len, double *knots_out, size_t knots_out_len);
+/* The curve through n fit points, x and y in turn, 2 to 64 of them; it has m = n + 2 control points. Refusals 1, 2, 4, 5, 11 come first: 5 where
+ * `given` is not 0, since no knots can be given with fit points. `work` is for m * m + 2 * m doubles, whatever it holds: after success and after 15 these
+ * are zeros, and no other refusal touches it. Writes 2m numbers into `control`, x and y in turn, and m + 4 into `knots_out`: 14 where one of the three is
+ * too short; 15. */
+uint64_t threshdune_build_fit(const double *coords, size_t coords_len, uint64_t given, const double *knots, size_t knots_len,
+                              double *work, size_t work_len, double *control, size_t control_len, double *knots_out,
+                              size_t knots_out_len);
+#define THRESHDUNE_FIT_WORK(n) (((n) + 2) * ((n) + 4)) /* the doubles of work for n fit points */
 /* The point at t and its derivatives up to the order: 2 * (order + 1) numbers, x and y in turn. 12 for t, 13 above order 4, 14, 15. */
 uint64_t threshdune_evaluate(const double *coords, size_t coords_len, const double *knots, size_t knots_len, double t,
                              uint64_t order, double *out, size_t out_len);
@@ -129,6 +137,11 @@ uint64_t threshdune_domain(const double *coords, size_t coords_len, const double
  * 14, 15. */
 uint64_t threshdune_samples(const double *coords, size_t coords_len, const double *knots, size_t knots_len, uint64_t per_span,
                             double *out, size_t out_len, uint64_t *count);
+
+/* The parameter of the curve's point that lies nearest to (px, py), as far as 16 samples to a span and Newton's rounds find it: one number.
+ * 11 for the point too, 14, 15. */
+uint64_t threshdune_closest(const double *coords, size_t coords_len, const double *knots, size_t knots_len, double px, double py,
+                            double *out, size_t out_len);
 
 /* ---- curves as records
  *
@@ -147,6 +160,9 @@ uint64_t threshdune_record_length(uint64_t points, uint64_t knot_count, const do
                                   size_t ys_len, const double *knots, size_t knots_len, double *out, size_t out_len);
 uint64_t threshdune_record_domain(uint64_t points, uint64_t knot_count, const double *xs, size_t xs_len, const double *ys,
                                   size_t ys_len, const double *knots, size_t knots_len, double *out, size_t out_len);
+uint64_t threshdune_record_closest(uint64_t points, uint64_t knot_count, const double *xs, size_t xs_len, const double *ys,
+                                   size_t ys_len, const double *knots, size_t knots_len, double px, double py, double *out,
+                                   size_t out_len);
 uint64_t threshdune_record_samples(uint64_t points, uint64_t knot_count, const double *xs, size_t xs_len, const double *ys,
                                    size_t ys_len, const double *knots, size_t knots_len, uint64_t per_span, double *out,
                                    size_t out_len, uint64_t *count);

@@ -2,3 +2,4 @@
 pub mod Slices
 pub mod Answers
 pub mod Determined
+pub mod Placed

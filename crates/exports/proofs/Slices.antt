@@ -28,6 +28,10 @@ module _ {A : Type 0} where
       rw (le-leb 27 (length g) (omega arith), le-leb (at + 1) (length (set out at v)) (omega arith), le-leb 27 (length (set out at v) - (at + 1)) (omega arith), add-one at)
       (rw (take-suc-set out at v here, sym (add-one at), after, drop-set-lt (at + 28) out at v (omega arith)) (ap (λ (l : List A). l ++ drop (at + 28) out) (append-snoc (take at out) v (take 27 g))))
 
+  pub one-put : (out : List A) (x : A) → 1 ≤ length out → set out 0 x ≡ paste out 0 (x ∷ []) 1
+  one-put [] x h = absurd (not-suc-le-zero h)
+  one-put (a ∷ out) x h = refl
+
   pub two-put : (out : List A) (x y : A) → 2 ≤ length out → set (set out 0 x) 1 y ≡ paste out 0 (x ∷ y ∷ []) 2
   two-put [] x y h = absurd (not-suc-le-zero h)
   two-put (a ∷ []) x y h = absurd (not-suc-le-zero (le-of-suc-le-suc h))

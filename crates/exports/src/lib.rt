@@ -20,7 +20,13 @@ ghost use Rattle.curve.specs.Build.{storedKnots, knotsBuilt, sliceShape, sliceR
 ghost use Rattle.curve.specs.Evaluate.{pointOrders, numbersFor, pointRules, tangentNumbers, tangentRules};
 ghost use Rattle.curve.specs.Length.{lengthOf, lengthRules, domainOf, domainRules};
 ghost use Rattle.curve.specs.Samples.{samplesOf, sampleRules, AnswerCounted};
-ghost use Rattle.exports.specs.Crossing.{isGiven, entryOf, readDv, readV, readSix, readCurve, putValues, putCounts, Answered, AnsweredV, AnsweredP, AnsweredB};
+ghost use Rattle.fit.specs.Fit.{curveThrough, fitRules, workAfter};
+ghost use Rattle.fit.specs.Slices.{roomShort, AnswerFit};
+ghost use Rattle.closest.specs.Search.{closestOf, searchRules};
+ghost use Rattle.meaning.specs.Refusals.{row};
+ghost use lib.Dec.{ltb};
+ghost use Rattle.exports.specs.Crossing.{isGiven, entryOf, readDv, readV, readSix, readCurve, putValues, putCounts, Answered, AnsweredV, AnsweredP, AnsweredB, foundNumber, foundInto, placed};
+use closest::Found;
 use curve::Curve;
 use partials::Dv;
 use plane::P2;
@@ -232,6 +238,29 @@ fn answer_rows(rows: [[Dv; 4]; 5], out: &mut [f64], counts: &mut [u64]) -> u64
     }
     write_rows(rows, out, counts);
     0
+}
+
+// Answers a parameter: 14 where out has no room for it, which comes before a refusal above that.
+fn answer_found(found: Found, out: &mut [f64]) -> u64
+    ensures { λ r. ⌜ r ≡ foundNumber found (now (out .entry)) ⌝ ∗ ⌜ now (out .exit) ≡ foundInto found (now (out .entry)) ⌝ }
+{
+    match found {
+        Found::At(t) => {
+            if out.len() < 1 {
+                return 14;
+            }
+            out[0] = t;
+            0
+        }
+        Found::Refused(k) => {
+            if k > 14 {
+                if out.len() < 1 {
+                    return 14;
+                }
+            }
+            k
+        }
+    }
 }
 
 // ---- values with partials
@@ -565,6 +594,22 @@ pub extern "C" fn threshdune_build_control(
     r.number
 }
 
+// The curve through these fit points, made in the lent work buffer. No knots can be given with fit points.
+#[no_mangle]
+pub extern "C" fn threshdune_build_fit(
+    coords: &[f64],
+    given: u64,
+    knots: &[f64],
+    work: &mut [f64],
+    control: &mut [f64],
+    knots_out: &mut [f64],
+) -> u64
+    ensures { λ r. ⌜ AnswerFit (fitRules (now (coords .entry)) (isGiven given) (now (knots .entry)) (roomShort (now (coords .entry)) (now (work .entry)) (now (control .entry)) (now («knots_out» .entry)))) (curveThrough (now (coords .entry))) (workAfter (now (coords .entry)) (isGiven given) (now (knots .entry)) (roomShort (now (coords .entry)) (now (work .entry)) (now (control .entry)) (now («knots_out» .entry))) (now (work .entry))) (now (control .entry)) (now («knots_out» .entry)) r (now (control .exit)) (now («knots_out» .exit)) (now (work .exit)) ⌝ }
+{
+    let r = fit::build_fit_slices(coords, given != 0, knots, work, control, knots_out);
+    r.number
+}
+
 // The point at t and its derivatives up to the order.
 #[no_mangle]
 pub extern "C" fn threshdune_evaluate(
@@ -625,6 +670,21 @@ pub extern "C" fn threshdune_samples(
 {
     let r = curve::samples_slices(coords, knots, per_span as usize, out, count);
     r.number
+}
+
+// The parameter of the curve's point that lies nearest to (px, py).
+#[no_mangle]
+pub extern "C" fn threshdune_closest(
+    coords: &[f64],
+    knots: &[f64],
+    px: f64,
+    py: f64,
+    out: &mut [f64],
+) -> u64
+    ensures { λ r. ⌜ Answer (placed (row 14 (ltb (length (now (out .entry))) 1)) (sliceRules (now (coords .entry)) true (now (knots .entry)) ++ searchRules (sliceShape (now (coords .entry)) (now (knots .entry))) (record { x = px; y = py }))) (closestOf (sliceShape (now (coords .entry)) (now (knots .entry))) (record { x = px; y = py }) ∷ []) 1 (now (out .entry)) r (now (out .exit)) ⌝ }
+{
+    let found = closest::closest_slices(coords, knots, px, py);
+    answer_found(found, out)
 }
 
 // ---- curves as records: two counts and three rooms, checked again like any other
@@ -717,4 +777,23 @@ pub extern "C" fn threshdune_record_samples(
     let c = read_curve(points, knot_count, xs, ys, knots);
     let r = curve::samples(c, per_span as usize, out, count);
     r.number
+}
+
+// The parameter of the curve's point that lies nearest to (px, py).
+#[no_mangle]
+pub extern "C" fn threshdune_record_closest(
+    points: u64,
+    knot_count: u64,
+    xs: &[f64],
+    ys: &[f64],
+    knots: &[f64],
+    px: f64,
+    py: f64,
+    out: &mut [f64],
+) -> u64
+    ensures { λ r. ⌜ Answer (placed (row 14 (ltb (length (now (out .entry))) 1)) (recordRules (readCurve points «knot_count» (now (xs .entry)) (now (ys .entry)) (now (knots .entry))) ++ searchRules (shapeOf (readCurve points «knot_count» (now (xs .entry)) (now (ys .entry)) (now (knots .entry)))) (record { x = px; y = py }))) (closestOf (shapeOf (readCurve points «knot_count» (now (xs .entry)) (now (ys .entry)) (now (knots .entry)))) (record { x = px; y = py }) ∷ []) 1 (now (out .entry)) r (now (out .exit)) ⌝ }
+{
+    let c = read_curve(points, knot_count, xs, ys, knots);
+    let found = closest::closest(c, px, py);
+    answer_found(found, out)
 }

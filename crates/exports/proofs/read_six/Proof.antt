@@ -1,5 +1,4 @@
 -- `exports::read_six` meets its contract: a turn reads one value.
-use mathlib.Core.Path.{refl, _∙_}
 use Prim.Native.Nat.{_-_, _*_}
 use lib.ListN.{getD, set}
 use Rattle.meaning.specs.Loops.{turns}

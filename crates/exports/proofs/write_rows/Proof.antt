@@ -1,5 +1,5 @@
 -- `exports::write_rows` meets its contract: a turn puts one value and its count.
-use mathlib.Core.Path.{_≡_, refl, _∙_}
+use mathlib.Core.Path.{_≡_, refl}
 use mathlib.Core.List.{_∷_}
 use Prim.Native.Nat.{_-_, _*_}
 use lib.ListN.{length, set}

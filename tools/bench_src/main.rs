@@ -4,7 +4,9 @@
 //!
 //! A later layer adds a file and a line to `main`.
 
+mod closest;
 mod curves;
+mod fits;
 mod root;
 mod sides;
 
@@ -19,5 +21,7 @@ fn main() {
     let mut bench = Bench::of(words.into_iter().next());
     root::time(&mut bench);
     curves::time(&mut bench);
+    fits::time(&mut bench);
+    closest::time(&mut bench);
     bench.finish();
 }

@@ -69,8 +69,10 @@ macro_rules! door {
     };
 }
 
+pub(crate) use door;
+
 impl Form<'_> {
-    fn tell(&self) -> String {
+    pub fn tell(&self) -> String {
         match self {
             Form::Slices { coords, knots } => format!("[{}] over [{}]", hex(coords), hex(knots)),
             Form::Record(record) => record.tell(),
@@ -334,19 +336,25 @@ pub struct Wanted {
 impl Wanted {
     /// By the table's rows up to 14; then the original is asked, and an answer that is not finite is refused too.
     pub fn of(table: Table, original: impl FnOnce() -> Vec<Vec<f64>>) -> Self {
-        let (number, several) = (table.first, table.several);
-        let buffers = if number == 0 { original() } else { Vec::new() };
-        match buffers.iter().flatten().all(|x| x.is_finite()) {
-            true => Wanted {
-                number,
-                several,
-                buffers,
-            },
-            false => Wanted {
-                number: NOT_FINITE,
+        let finite = |buffers: &Vec<Vec<f64>>| buffers.iter().flatten().all(|x| x.is_finite());
+        Wanted::judged(table, || Some(original()).filter(finite))
+    }
+
+    /// The same with a verdict beside the answer: nothing where 15 is to be given.
+    pub fn judged(table: Table, original: impl FnOnce() -> Option<Vec<Vec<f64>>>) -> Self {
+        let several = table.several;
+        if table.first != 0 {
+            return Wanted {
+                number: table.first,
                 several,
                 buffers: Vec::new(),
-            },
+            };
+        }
+        let answer = original();
+        Wanted {
+            number: if answer.is_some() { 0 } else { NOT_FINITE },
+            several,
+            buffers: answer.unwrap_or_default(),
         }
     }
 

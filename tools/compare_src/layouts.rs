@@ -21,6 +21,11 @@ impl Layout {
             4..7 => random.within(4, 66),
             _ => random.within(64, 66),
         } as usize;
+        Self::draw_of(random, n)
+    }
+
+    /// The same of n control points.
+    pub fn draw_of(random: &mut Random, n: usize) -> Self {
         let given = !random.once_in(4);
         let (coords, of_coords) = coordinates(random, n);
         let (knots, of_knots) = if given {
@@ -159,7 +164,7 @@ impl Layout {
 }
 
 /// Document 01's uniform knots; none for fewer than 4 points.
-fn uniform(n: usize) -> Vec<f64> {
+pub fn uniform(n: usize) -> Vec<f64> {
     if n < 4 {
         return Vec::new();
     }
@@ -395,7 +400,7 @@ pub fn parameter(random: &mut Random, knots: &[f64]) -> (f64, &'static str) {
 }
 
 /// Within one of the pairs that rise; if none does, 0.5.
-fn inside(random: &mut Random, knots: &[f64]) -> f64 {
+pub fn inside(random: &mut Random, knots: &[f64]) -> f64 {
     let rising: Vec<&[f64]> = knots.windows(2).filter(|pair| pair[0] < pair[1]).collect();
     let finite = |pair: &[f64]| pair[0].is_finite() && pair[1].is_finite();
     match place(random, rising.len()).map(|at| rising[at]) {

@@ -7,9 +7,12 @@
 
 mod asked;
 mod basis;
+mod closest;
 mod curves;
 mod exact;
+mod fits;
 mod hull;
+mod judge;
 mod layouts;
 mod lent;
 mod numbers;
@@ -22,6 +25,7 @@ mod records;
 mod roots;
 mod table;
 mod tally;
+mod told;
 
 use random::Random;
 use std::time::Instant;
@@ -74,6 +78,16 @@ const SECTIONS: &[Section] = &[
         name: "records",
         rounds: 500_000,
         run: records::run,
+    },
+    Section {
+        name: "fits",
+        rounds: 600_000,
+        run: fits::run,
+    },
+    Section {
+        name: "closest",
+        rounds: 320_000,
+        run: closest::run,
     },
     Section {
         name: "hull",

@@ -163,6 +163,29 @@ unsafe extern "C" {
 
 // Curves.
 unsafe extern "C" {
+    pub fn threshdune_closest(
+        coords: *const f64,
+        coords_len: usize,
+        knots: *const f64,
+        knots_len: usize,
+        px: f64,
+        py: f64,
+        out: *mut f64,
+        out_len: usize,
+    ) -> u64;
+    pub fn threshdune_build_fit(
+        coords: *const f64,
+        coords_len: usize,
+        given: u64,
+        knots: *const f64,
+        knots_len: usize,
+        work: *mut f64,
+        work_len: usize,
+        control: *mut f64,
+        control_len: usize,
+        knots_out: *mut f64,
+        knots_out_len: usize,
+    ) -> u64;
     pub fn threshdune_build_control(
         coords: *const f64,
         coords_len: usize,
@@ -245,5 +268,6 @@ records! {
     threshdune_record_point_tangent, (t: f64, out: *mut f64, out_len: usize);
     threshdune_record_length, (out: *mut f64, out_len: usize);
     threshdune_record_domain, (out: *mut f64, out_len: usize);
+    threshdune_record_closest, (px: f64, py: f64, out: *mut f64, out_len: usize);
     threshdune_record_samples, (per_span: u64, out: *mut f64, out_len: usize, count: *mut u64);
 }

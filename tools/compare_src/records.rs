@@ -50,16 +50,22 @@ impl Record {
                 false => layout.damage(random),
             }
         }
-        let every_other = |from: usize| layout.coords.iter().skip(from).step_by(2).copied();
-        let (xs, ys): (Vec<f64>, Vec<f64>) = (every_other(0).collect(), every_other(1).collect());
-        let mut counts = [xs.len() as u64, layout.knots.len() as u64];
+        let mut record = Record::holding(random, &layout.coords, &layout.knots);
         if counts_too {
-            damage_counts(random, &mut counts);
+            damage_counts(random, &mut record);
         }
-        let knots = slice(random, layout.knots, KNOTS);
+        record
+    }
+
+    /// A curve that stands in slices, with what follows its numbers by chance.
+    pub fn holding(random: &mut Random, coords: &[f64], knots: &[f64]) -> Self {
+        let every_other = |from: usize| coords.iter().skip(from).step_by(2).copied();
+        let (xs, ys): (Vec<f64>, Vec<f64>) = (every_other(0).collect(), every_other(1).collect());
+        let (points, knot_count) = (xs.len() as u64, knots.len() as u64);
+        let knots = slice(random, knots.to_vec(), KNOTS);
         Record {
-            points: counts[0],
-            knot_count: counts[1],
+            points,
+            knot_count,
             xs: slice(random, xs, POINTS),
             ys: slice(random, ys, POINTS),
             read_knots: room(&knots, KNOTS),
@@ -143,8 +149,8 @@ fn slice(random: &mut Random, mut numbers: Vec<f64>, room: usize) -> Vec<f64> {
     numbers
 }
 
-/// One of them, or both alike.
-fn damage_counts(random: &mut Random, counts: &mut [u64; 2]) {
+/// One of the counts, or both alike.
+fn damage_counts(random: &mut Random, record: &mut Record) {
     let count = |random: &mut Random, near: u64| match random.below(16) {
         n @ 0..5 => n,
         5 | 6 => near.saturating_sub(1),
@@ -158,11 +164,11 @@ fn damage_counts(random: &mut Random, counts: &mut [u64; 2]) {
         _ => random.bits(),
     };
     match random.below(3) {
-        0 => counts[0] = count(random, counts[0]),
-        1 => counts[1] = count(random, counts[1]),
+        0 => record.points = count(random, record.points),
+        1 => record.knot_count = count(random, record.knot_count),
         _ => {
-            counts[0] = count(random, counts[0]);
-            counts[1] = counts[0].wrapping_add(4);
+            record.points = count(random, record.points);
+            record.knot_count = record.points.wrapping_add(4);
         }
     }
 }

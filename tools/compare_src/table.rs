@@ -1,11 +1,12 @@
-//! Document 01's table of refusals, for curves made from control points: the first that applies is the
+//! Document 01's table of refusals, for control points and for fit points: the first that applies is the
 //! answer. Each row is asked whether an earlier one applies or not, so that cases in which the order
 //! decides can be counted. The rows are written from the document, not from the original.
 
 use original::spline::check;
 
-/// The most control points.
+/// The most control points, and the most fit points.
 const MOST: u64 = 66;
+const MOST_FIT: u64 = 64;
 
 /// An outcome is not finite.
 pub const NOT_FINITE: u64 = 15;
@@ -43,10 +44,31 @@ impl Table {
         )
     }
 
+    /// The same beside a point that is searched for, which row 11 judges too.
+    pub fn of_search(coords: &[f64], knots: &[f64], point: [f64; 2]) -> Self {
+        let numbers = [coords, &point].concat();
+        Table::default().row(1, coords.len() % 2 == 1).rest(
+            coords.len() as u64 / 2,
+            Some((knots.len() as u64, knots)),
+            &numbers,
+        )
+    }
+
     /// The rows 2 to 11 for a record: its counts, whatever they are, and the knots and coordinates that they count, as far as
     /// there is room for them.
     pub fn of_record(points: u64, knot_count: u64, knots: &[f64], coords: &[f64]) -> Self {
         Table::default().rest(points, Some((knot_count, knots)), coords)
+    }
+
+    /// The rows 1 to 11 for fit points. A list of knots that is given is refused, whatever is in it.
+    pub fn of_fit(coords: &[f64], given: bool) -> Self {
+        let n = coords.len() as u64 / 2;
+        Table::default()
+            .row(1, coords.len() % 2 == 1)
+            .row(2, n < 2)
+            .row(4, n > MOST_FIT)
+            .row(5, given)
+            .row(11, !coords.iter().all(|x| x.is_finite()))
     }
 
     fn rest(self, n: u64, knots: Option<(u64, &[f64])>, coords: &[f64]) -> Self {
@@ -82,31 +104,40 @@ fn crowded(knots: &[f64], n: u64) -> bool {
 /// What the original's `check` says of n control points, as the number of document 01 that its words stand for; 0 where it
 /// accepts. Nothing of more points than the port takes.
 pub fn their_check(n: u64, knots: Option<&[f64]>) -> Option<u64> {
-    const WORDS: [(&str, u64); 7] = [
-        ("needs at least 2 points", 2),
-        ("needs at least 4 control points", 3),
-        ("knots, got", 6),
-        ("finite and non-decreasing", 7),
-        ("must be clamped", 8),
-        ("span no interval", 9),
-        ("repeats more than", 10),
-    ];
-    if n > MOST {
-        return None;
-    }
-    let Err(words) = check(n as usize, false, knots) else {
-        return Some(0);
-    };
-    match WORDS.iter().find(|(part, _)| words.contains(part)) {
-        Some((_, number)) => Some(*number),
-        None => panic!("the original's check has other words: {words}"),
-    }
+    (n <= MOST).then(|| numbered(check(n as usize, false, knots)))
 }
 
 /// The same of coordinates, x and y in turn: nothing of an odd number of them.
 pub fn their_check_of(coords: &[f64], knots: Option<&[f64]>) -> Option<u64> {
     let even = coords.len() % 2 == 0;
     even.then(|| their_check(coords.len() as u64 / 2, knots))?
+}
+
+/// The same of fit points.
+pub fn their_check_of_fit(coords: &[f64], knots: Option<&[f64]>) -> Option<u64> {
+    let n = coords.len() / 2;
+    let taken = coords.len() % 2 == 0 && n as u64 <= MOST_FIT;
+    taken.then(|| numbered(check(n, true, knots)))
+}
+
+fn numbered(said: Result<(), String>) -> u64 {
+    const WORDS: [(&str, u64); 8] = [
+        ("needs at least 2 points", 2),
+        ("needs at least 4 control points", 3),
+        ("applies only to a control-point spline", 5),
+        ("knots, got", 6),
+        ("finite and non-decreasing", 7),
+        ("must be clamped", 8),
+        ("span no interval", 9),
+        ("repeats more than", 10),
+    ];
+    let Err(words) = said else {
+        return 0;
+    };
+    match WORDS.iter().find(|(part, _)| words.contains(part)) {
+        Some((_, number)) => *number,
+        None => panic!("the original's check has other words: {words}"),
+    }
 }
 
 /// Whether the two agree: the numbers that `check` knows, and those that the port adds.

@@ -1,0 +1,63 @@
+//! The closest parameter on a fit of 64 points, 1,009 samples of it and then Newton's rounds. Ours goes in by the public door, which checks
+//! the curve anew each time; the Rust, as it was published, does not. The points searched for lie clear of ties, so that its `hypot` and our root find
+//! the same parameter.
+
+use crate::fits::wave;
+use crate::sides::Bench;
+use original::spline::{BSpline, Curve, P2, closest_param};
+
+unsafe extern "C" {
+    fn threshdune_closest(
+        coords: *const f64,
+        coords_len: usize,
+        knots: *const f64,
+        knots_len: usize,
+        px: f64,
+        py: f64,
+        out: *mut f64,
+        out_len: usize,
+    ) -> u64;
+}
+
+pub fn time(bench: &mut Bench) {
+    let fit = BSpline::from_fit_points(&wave(64, 3)).expect("accepted");
+    let coords = fit.control_points.concat();
+    let handles = fit.control_points.iter().map(|&[x, y]| P2::new(x, y));
+    let curve = Curve {
+        degree: fit.degree,
+        knots: fit.knots.clone(),
+        control: handles.collect(),
+    };
+    // all along the curve, near it and far
+    let at = |k: usize| [k as f64 * 5.1 - 3.0, (k as f64 * 1.7).sin() * 6.0 + 0.3];
+    let points: Vec<[f64; 2]> = (0..18).map(at).collect();
+    bench.case(
+        "closest",
+        &points,
+        |p| [ours(&coords, &fit.knots, *p)],
+        |p| [theirs(&curve, *p)],
+    );
+}
+
+fn ours(coords: &[f64], knots: &[f64], [px, py]: [f64; 2]) -> f64 {
+    let mut t = 0.0;
+    let refusal = unsafe {
+        threshdune_closest(
+            coords.as_ptr(),
+            coords.len(),
+            knots.as_ptr(),
+            knots.len(),
+            px,
+            py,
+            &mut t,
+            1,
+        )
+    };
+    assert_eq!(refusal, 0);
+    t
+}
+
+#[inline(never)] // as ours is in a library
+fn theirs(curve: &Curve<f64>, p: [f64; 2]) -> f64 {
+    closest_param(curve, p)
+}

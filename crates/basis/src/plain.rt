@@ -111,7 +111,7 @@ fn first_coef(ndu: [[f64; 4]; 4], r: usize, k: usize, s: Coefs) -> Coefs
     ensures { λ q. ⌜ view q ≡ firstCoef plain ndu r k (view s) ⌝ }
 {
     if k <= r {
-        let at = columns::column_at(columns::below_by(r, k), 0);
+        let at = columns::column_at(r as u8, k as u8, 0);
         return first_put(ndu[4 - k][at], ndu[at][3 - k], s);
     }
     s
@@ -122,11 +122,12 @@ fn mid_coefs(ndu: [[f64; 4]; 4], r: usize, k: usize, s: Coefs) -> Coefs
     requires { ⌜ r ≤ 3 ⌝ ∗ ⌜ 1 ≤ k ⌝ ∗ ⌜ k ≤ 3 ⌝ }
     ensures { λ q. ⌜ view q ≡ midCoefs plain ndu r k (view s) ⌝ }
 {
-    let rk = columns::below_by(r, k);
-    let end = columns::end_j(r, k);
+    let rb = r as u8;
+    let kb = k as u8;
+    let end = columns::end_j(rb, kb);
     let mut q = s;
-    for j in columns::first_j(rk)..end {
-        let at = columns::column_at(rk, j);
+    for j in columns::first_j(rb, kb)..end {
+        let at = columns::column_at(rb, kb, j as u8);
         let next = mid_put(ndu[4 - k][at], ndu[at][3 - k], j, q);
         q = next;
     }

@@ -13,7 +13,7 @@ use lib.Ieee.{Float}
 use Rattle.buffer.specs.Pasted.{pasted}
 use Rattle.meaning.specs.Refusals.{Row, row, firstOf}
 use Rattle.curve.specs.declared.Curve.{Curve}
-use Rattle.curve.specs.Answer.{Answer}
+use Rattle.curve.specs.Answer.{deliveryRules, Answer}
 use Rattle.curve.specs.Samples.{AnswerCounted}
 use Rattle.curve.specs.Build.{intoRules, AnswerBuild}
 use Rattle.curve.proofs.Rows.{numbered, row-applies, row-passes, second-decides, first-decides}
@@ -47,6 +47,11 @@ module _ {numbers : List Float} {k : ℕ} {out : List Float} where
 pub put-all : (numbers : List Float) (k : ℕ) (out : List Float) → k ≤ length numbers → k ≤ length out → pasted numbers k out 0 ≡ paste out 0 numbers k
 unfolding pasted
 put-all numbers k out g h = rw (le-leb k (length numbers) g, le-leb 0 (length out) (omega arith), le-leb k (length out - 0) (omega arith))
+
+-- numbers that were delivered are those that they are equal to
+pub delivered-as : {l l′ out : List Float} {k m : ℕ} {out′ : List Float} → l ≡ l′
+    → Answer (deliveryRules l k out) l k out m out′ → Answer (deliveryRules l′ k out) l′ k out m out′
+delivered-as {l} {l′} {out} {k} {m} {out′} e a = subst (λ (x : List Float). Answer (deliveryRules x k out) x k out m out′) e a
 
 -- a test that failed, and one that passed
 pub not-told : {a b t : Bool} → a ≡ b → not a ≡ t → not b ≡ t

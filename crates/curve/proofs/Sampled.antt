@@ -3,19 +3,19 @@ use mathlib.Core.Path.{_≡_, refl, sym, ap, _∙_}
 use mathlib.Core.Bool.{Bool, true, false, not, cond}
 use mathlib.Core.List.{List, [], _∷_, _++_}
 use Prim.Native.Nat.{ℕ, suc, _+_, _-_, _*_, _≤_, _<_}
-use native.Mathlib.Nat.{le-refl, zero-add, suc-ne-zero}
+use native.Mathlib.Nat.{le-refl, zero-add}
 use borrow.Author.Tests.{ne-eqb}
 use native.Mathlib.Numerals.{add-one}
 use native.Mathlib.Omega.{arith}
 use lib.ListN.{length, getD, set, take, drop, length-append, List·getD-append}
 use lib.Seq.{paste, take-append-seam, take-length, take-at, take-all, drop-append-add, drop-drop, drop-cons, set-at, append-snoc}
-use lib.Dec.{eqb}
+use lib.Dec.{eqb, ltb}
 use lib.Ieee.{Float, nan, lt}
 use lib.Ieee.Scale.{finite}
 use Rattle.meaning.specs.Scalar.{plain}
 use Rattle.meaning.specs.Table.{at1}
 use Rattle.meaning.specs.Loops.{turns, run}
-use Rattle.meaning.specs.Refusals.{Row, firstOf}
+use Rattle.meaning.specs.Refusals.{Row, row, firstOf}
 use Rattle.knots.specs.Search.{some, listed}
 use Rattle.knots.proofs.Filling.{length-listed, at-listed}
 use Rattle.knots.proofs.Searching.{some-found, none-found, found-some, found-none}
@@ -23,7 +23,7 @@ use Rattle.knots.proofs.Tests.{by-two}
 use Rattle.evaluate.specs.Point.{Shape}
 use Rattle.curve.specs.Record.{someWild}
 use Rattle.curve.specs.Samples.{sampleAt, risingSamples, pairSamples, samplesOf}
-use Rattle.curve.specs.Answer.{Answer}
+use Rattle.curve.specs.Answer.{deliveryRules, Answer}
 
 -- sample s of the list
 pub sample-is : (w0 w1 : Float) (per s : ℕ) → s < per → getD (listed 0 per (sampleAt w0 w1 per)) s nan ≡ sampleAt w0 w1 per s
@@ -110,6 +110,15 @@ wild-front l r =
 pub paste-front : (out l r : List Float) → paste out 0 (l ++ r) (length l) ≡ paste out 0 l (length l)
 paste-front out l r = ap (λ (x : List Float). take 0 out ++ x ++ drop (0 + length l) out) (take-append-seam l r ∙ sym (take-length l))
 
+-- so numbers at the front of a longer room are delivered as if they were alone
+pub delivered-front : (room l r out : List Float) {k m : ℕ} {out′ : List Float} → room ≡ l ++ r → k ≡ length l
+    → Answer (deliveryRules room k out) room k out m out′ → Answer (deliveryRules l (length l) out) l (length l) out m out′
+delivered-front room l r out {k} {m} {out′} e n a =
+    let b : Answer (deliveryRules (l ++ r) (length l) out) (l ++ r) (length l) out m out′ = rw (e, n) at a in
+    let w : firstOf (deliveryRules (l ++ r) (length l) out) ≡ firstOf (deliveryRules l (length l) out) =
+    ap (λ (t : Bool). firstOf (row 14 (ltb (length out) (length l)) ∷ row 15 t ∷ [])) (wild-front l r) in
+    record { refusal = b .refusal ∙ w; written = b .written ∙ λ i. cond (eqb (w i) 0) (paste-front out l r i) out }
+
 -- ---- all of the samples, and their count
 
 module _ (c : Shape Float) (per : ℕ) where
@@ -129,8 +138,8 @@ module _ (c : Shape Float) (per : ℕ) where
 
 -- the count stands beside an answer
 module _ {rules : List Row} {numbers : List Float} {k : ℕ} {out out′ : List Float} where
-  pub count-stays : {m : ℕ} (n : ℕ) → Answer rules numbers k out (suc m) out′ → n ≡ cond (eqb (firstOf rules) 0) (length numbers) n
-  count-stays {m} n a = rw (sym (a .refusal), ne-eqb (suc m) 0 (suc-ne-zero m))
+  pub count-stays : {m : ℕ} (n : ℕ) → (m ≡ 0 → ⊥) → Answer rules numbers k out m out′ → n ≡ cond (eqb (firstOf rules) 0) (length numbers) n
+  count-stays {m} n h a = rw (sym (a .refusal), ne-eqb m 0 h)
 
-  pub count-given : {n′ : ℕ} (n : ℕ) → Answer rules numbers k out 0 out′ → n′ ≡ length numbers → n′ ≡ cond (eqb (firstOf rules) 0) (length numbers) n
-  count-given n a e = rw (sym (a .refusal)) e
+  pub count-given : {m n′ : ℕ} (n : ℕ) → m ≡ 0 → Answer rules numbers k out m out′ → n′ ≡ length numbers → n′ ≡ cond (eqb (firstOf rules) 0) (length numbers) n
+  count-given {m} n h a e = rw (sym (a .refusal), h) e

@@ -2,7 +2,6 @@
 use mathlib.Core.Bool.{not}
 use mathlib.Core.List.{List, [], _∷_}
 use Prim.Native.Nat.{ℕ, _+_, _*_}
-use lib.ListN.{length}
 use lib.Dec.{ltb}
 use lib.Ieee.{Float}
 use lib.Ieee.Scale.{finite}
@@ -12,7 +11,7 @@ use Rattle.meaning.specs.Refusals.{Row, row}
 use Rattle.knots.specs.Span.{spanOf}
 use Rattle.plane.specs.Vector.{unitV}
 use Rattle.evaluate.specs.Point.{Shape, ordersOf}
-use Rattle.curve.specs.Record.{someWild}
+use Rattle.curve.specs.Answer.{deliveryRules}
 
 -- the orders 0 to `order` at t, x and y in turn; the span is document 01's
 abbrev pub pointOrders : Shape Float → Float → ℕ → List Float
@@ -25,9 +24,7 @@ numbersFor order = 2 * (order + 1)
 -- after the rules of the curve
 unfoldable pub pointRules : Shape Float → Float → ℕ → List Float → List Row
 pointRules c t order out =
-    row 12 (not (finite t)) ∷ row 13 (ltb 4 order) ∷ row 14 (ltb (length out) (numbersFor order))
-    ∷ row 15 (someWild (pointOrders c t order) (numbersFor order))
-    ∷ []
+    row 12 (not (finite t)) ∷ row 13 (ltb 4 order) ∷ deliveryRules (pointOrders c t order) (numbersFor order) out
 
 -- the point and the unit tangent: C' over its length
 unfoldable pub tangentNumbers : Shape Float → Float → List Float
@@ -37,4 +34,4 @@ tangentNumbers c t =
     at1 plain d 0 ∷ at1 plain d 1 ∷ unit .x ∷ unit .y ∷ []
 
 unfoldable pub tangentRules : Shape Float → Float → List Float → List Row
-tangentRules c t out = row 12 (not (finite t)) ∷ row 14 (ltb (length out) 4) ∷ row 15 (someWild (tangentNumbers c t) 4) ∷ []
+tangentRules c t out = row 12 (not (finite t)) ∷ deliveryRules (tangentNumbers c t) 4 out

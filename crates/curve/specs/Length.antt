@@ -10,7 +10,7 @@ use Rattle.meaning.specs.Loops.{run}
 use Rattle.meaning.specs.Refusals.{Row, row}
 use Rattle.plane.specs.Vector.{Vector, subV, normV}
 use Rattle.evaluate.specs.Point.{Shape}
-use Rattle.curve.specs.Record.{someWild}
+use Rattle.curve.specs.Answer.{deliveryRules}
 
 module _ {A : Type 0} (o : Ops A) (c : Shape A) where
   -- control point i
@@ -22,7 +22,7 @@ module _ {A : Type 0} (o : Ops A) (c : Shape A) where
   lengthOf = run 1 (c .n) (λ i s. o .plus s (normV o (subV o (pointAt i) (pointAt (i - 1))))) (o .cst zero64)
 
 unfoldable pub lengthRules : Shape Float → List Float → List Row
-lengthRules c out = row 14 (ltb (length out) 1) ∷ row 15 (someWild (lengthOf plain c ∷ []) 1) ∷ []
+lengthRules c out = deliveryRules (lengthOf plain c ∷ []) 1 out
 
 -- the first knot and the last
 abbrev pub domainOf : Shape Float → List Float

@@ -13,8 +13,7 @@ use Rattle.meaning.specs.Loops.{run}
 use Rattle.meaning.specs.Refusals.{Row, row, firstOf}
 use Rattle.knots.specs.Search.{listed}
 use Rattle.evaluate.specs.Point.{Shape}
-use Rattle.curve.specs.Record.{someWild}
-use Rattle.curve.specs.Answer.{Answer}
+use Rattle.curve.specs.Answer.{deliveryRules, Answer}
 
 -- sample s of `per` between w0 and w1: w0 + (w1 - w0) * s / per, multiplied before divided
 abbrev pub sampleAt : Float → Float → ℕ → ℕ → Float
@@ -33,10 +32,7 @@ unfoldable pub samplesOf : Shape Float → ℕ → List Float
 samplesOf c per = run 0 (c .n + 3) (λ i l. l ++ pairSamples (c .knots) per i) [] ++ (at1 plain (c .knots) (c .n + 3) ∷ [])
 
 unfoldable pub sampleRules : Shape Float → ℕ → List Float → List Row
-sampleRules c per out =
-    row 13 (ltb 16 per) ∷ row 14 (ltb (length out) (length (samplesOf c per)))
-    ∷ row 15 (someWild (samplesOf c per) (length (samplesOf c per)))
-    ∷ []
+sampleRules c per out = row 13 (ltb 16 per) ∷ deliveryRules (samplesOf c per) (length (samplesOf c per)) out
 
 -- the numbers go into a slice, and how many there are into a number that is lent beside it
 pub record AnswerCounted (rules : List Row) (numbers : List Float) (out : List Float) (n : ℕ) (number : ℕ) (out′ : List Float) (n′ : ℕ) : Type 0 where

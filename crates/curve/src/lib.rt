@@ -14,7 +14,7 @@ ghost use Rattle.knots.specs.Search.{seek, listed};
 ghost use Rattle.knots.specs.Rules.{knotRules};
 ghost use Rattle.knots.proofs.Accepted.{Accepted};
 ghost use Rattle.curve.specs.Record.{shapeOf, emptyCurve, countedKnots, recordRules};
-ghost use Rattle.curve.specs.Answer.{Answer};
+ghost use Rattle.curve.specs.Answer.{deliveryRules, Answer};
 ghost use Rattle.curve.specs.Evaluate.{pointOrders, numbersFor, pointRules, tangentNumbers, tangentRules};
 ghost use Rattle.curve.specs.Length.{lengthOf, lengthRules, domainOf, domainRules};
 ghost use Rattle.curve.specs.Samples.{sampleAt, risingSamples, pairSamples, samplesOf, sampleRules, AnswerCounted};
@@ -236,6 +236,21 @@ pub fn build_control_slices(
 
 // ---- what is answered of an accepted curve
 
+// The first k of the numbers, where there is room for them and each is finite.
+fn deliver(numbers: &[f64], k: usize, out: &mut [f64]) -> Refusal
+    requires { ⌜ k ≤ length (now numbers) ⌝ }
+    ensures { λ r. ⌜ Answer (deliveryRules (now (numbers .entry)) k (now (out .entry))) (now (numbers .entry)) k (now (out .entry)) (r .number) (now (out .exit)) ⌝ }
+{
+    if out.len() < k {
+        return Refusal { number: 14 };
+    }
+    if first_wild(numbers, k) < k {
+        return Refusal { number: 15 };
+    }
+    buffer::put(numbers, k, out, 0);
+    Refusal { number: 0 }
+}
+
 // The orders 0 to order at t.
 fn answer_point(c: Curve, t: f64, order: usize, out: &mut [f64]) -> Refusal
     requires { ⌜ Accepted (take (c .points + 4) (c .knots)) (c .points) ⌝ }
@@ -247,16 +262,8 @@ fn answer_point(c: Curve, t: f64, order: usize, out: &mut [f64]) -> Refusal
     if order > 4 {
         return Refusal { number: 13 };
     }
-    let k = 2 * (order + 1);
-    if out.len() < k {
-        return Refusal { number: 14 };
-    }
     let room = evaluate::orders(&c.knots, c.points, &c.xs, &c.ys, t, order);
-    if first_wild(&room, k) < k {
-        return Refusal { number: 15 };
-    }
-    buffer::put(&room, k, out, 0);
-    Refusal { number: 0 }
+    deliver(&room, 2 * (order + 1), out)
 }
 
 // The point at t, and the unit tangent.
@@ -267,9 +274,6 @@ fn answer_tangent(c: Curve, t: f64, out: &mut [f64]) -> Refusal
     if !number::is_finite(t) {
         return Refusal { number: 12 };
     }
-    if out.len() < 4 {
-        return Refusal { number: 14 };
-    }
     let room = evaluate::orders(&c.knots, c.points, &c.xs, &c.ys, t, 1);
     let d = P2 {
         x: room[2],
@@ -277,11 +281,7 @@ fn answer_tangent(c: Curve, t: f64, out: &mut [f64]) -> Refusal
     };
     let unit = d.unit();
     let four = [room[0], room[1], unit.x, unit.y];
-    if first_wild(&four, 4) < 4 {
-        return Refusal { number: 15 };
-    }
-    buffer::put(&four, 4, out, 0);
-    Refusal { number: 0 }
+    deliver(&four, 4, out)
 }
 
 // The length of the polygon of n control points.
@@ -307,15 +307,8 @@ fn answer_length(c: Curve, out: &mut [f64]) -> Refusal
     requires { ⌜ Accepted (take (c .points + 4) (c .knots)) (c .points) ⌝ }
     ensures { λ r. ⌜ Answer (lengthRules (shapeOf c) (now (out .entry))) (lengthOf plain (shapeOf c) ∷ []) 1 (now (out .entry)) (r .number) (now (out .exit)) ⌝ }
 {
-    if out.len() < 1 {
-        return Refusal { number: 14 };
-    }
     let one = [polygon(&c.xs, &c.ys, &c.knots, c.points)];
-    if first_wild(&one, 1) < 1 {
-        return Refusal { number: 15 };
-    }
-    buffer::put(&one, 1, out, 0);
-    Refusal { number: 0 }
+    deliver(&one, 1, out)
 }
 
 // The first knot and the last.
@@ -382,15 +375,11 @@ fn answer_samples(c: Curve, per: usize, out: &mut [f64], count: &mut u64) -> Ref
     let at = sample_pairs(&u, n, per, &mut room);
     room[at] = u[n + 3];
     let k = at + 1;
-    if out.len() < k {
-        return Refusal { number: 14 };
+    let r = deliver(&room, k, out);
+    if r.number == 0 {
+        *count = k as u64;
     }
-    if first_wild(&room, k) < k {
-        return Refusal { number: 15 };
-    }
-    buffer::put(&room, k, out, 0);
-    *count = k as u64;
-    Refusal { number: 0 }
+    r
 }
 
 // ---- the doors: a curve is checked again, whoever made it

@@ -2,17 +2,14 @@
 ghost use mathlib.Core.Path.{_≡_};
 ghost use mathlib.Core.Bool.{true};
 ghost use mathlib.Core.List.{[], _∷_, _++_};
-ghost use Prim.Native.Nat.{_+_, _/_, _≤_, min};
-ghost use lib.ListN.{length, getD};
-ghost use lib.Seq.{paste};
+ghost use Prim.Native.Nat.{_/_};
+ghost use lib.ListN.{length};
 ghost use lib.Ieee.Scale.{finite};
 ghost use Rattle.meaning.specs.Root.{rootOf};
 ghost use Rattle.meaning.specs.Number.{sizeOf, atLeast, clampOf};
 ghost use Rattle.meaning.specs.Scalar.{plain};
 ghost use Rattle.partials.specs.Dual.{dual, varDv, addDv, subDv, mulDv, divDv, negDv, rootDv, overshootDv, fineDv};
 ghost use Rattle.plane.specs.Vector.{addV, subV, scaleV, dotV, normV, unitV};
-ghost use Rattle.plane.specs.View.{view, viewD};
-ghost use Rattle.buffer.specs.Pasted.{pasted};
 ghost use Rattle.basis.specs.Basis.{derivativesOf};
 ghost use Rattle.curve.specs.Record.{shapeOf, recordRules};
 ghost use Rattle.curve.specs.Answer.{Answer};
@@ -25,12 +22,9 @@ ghost use Rattle.fit.specs.Slices.{roomShort, AnswerFit};
 ghost use Rattle.closest.specs.Search.{closestOf, searchRules};
 ghost use Rattle.meaning.specs.Refusals.{row};
 ghost use lib.Dec.{ltb};
-ghost use Rattle.exports.specs.Crossing.{isGiven, entryOf, readDv, readV, readSix, readCurve, putValues, putCounts, Answered, AnsweredV, AnsweredP, AnsweredB, foundNumber, foundInto, placed};
-use closest::Found;
-use curve::Curve;
+ghost use Rattle.crossing.specs.Crossing.{isGiven, readDv, readV, readSix, readCurve, Answered, AnsweredV, AnsweredP, AnsweredB, placed};
 use partials::Dv;
 use plane::P2;
-use plane::P2d;
 
 // ---- numbers
 
@@ -74,195 +68,6 @@ pub extern "C" fn threshdune_clamp(x: f64, lo: f64, hi: f64) -> f64
     number::clamp(x, lo, hi)
 }
 
-// ---- crossing
-
-fn entry(s: &[f64], i: usize) -> f64
-    ensures { λ r. ⌜ r ≡ entryOf (now (s .entry)) i ⌝ }
-{
-    if i < s.len() {
-        return s[i];
-    }
-    0.0
-}
-
-// The count at i, 0 where there is none.
-fn count_at(ns: &[u64], i: usize) -> usize
-    ensures { λ r. ⌜ r ≡ getD (now (ns .entry)) i 0 ⌝ }
-{
-    if i < ns.len() {
-        return ns[i] as usize;
-    }
-    0
-}
-
-// The value with n partials that stands in s from index at on.
-fn read(s: &[f64], at: usize, n: usize) -> Dv
-    requires { ⌜ at ≤ 140 ⌝ }
-    ensures { λ r. ⌜ r ≡ readDv (now (s .entry)) at n ⌝ }
-{
-    let mut g = [0.0; 27];
-    for k in 0..27 {
-        g[k] = entry(s, at + 1 + k);
-    }
-    Dv {
-        v: entry(s, at),
-        g,
-        n,
-    }
-}
-
-// The vector with partials that stands in s.
-fn read_vector(s: &[f64], ns: &[u64]) -> P2d
-    ensures { λ r. ⌜ viewD r ≡ readV (now (s .entry)) (now (ns .entry)) ⌝ }
-{
-    let x = read(s, 0, count_at(ns, 0));
-    let y = read(s, 28, count_at(ns, 1));
-    P2d { x, y }
-}
-
-// The six values with partials that stand in s, one behind the other.
-fn read_six(s: &[f64], ns: &[u64]) -> [Dv; 6]
-    ensures { λ r. ⌜ r ≡ readSix (now (s .entry)) (now (ns .entry)) ⌝ }
-{
-    let zero = Dv::cst(0.0);
-    let mut w = [zero; 6];
-    for i in 0..6 {
-        let next = read(s, 28 * i, count_at(ns, i));
-        w[i] = next;
-    }
-    w
-}
-
-// Puts the numbers of s into room, as many as it takes.
-fn fill(s: &[f64], room: &mut [f64])
-    ensures { λ _. ⌜ now (room .exit) ≡ pasted (now (s .entry)) (min (length (now (s .entry))) (length (now (room .entry)))) (now (room .entry)) 0 ⌝ }
-{
-    if s.len() <= room.len() {
-        buffer::put(s, s.len(), room, 0);
-        return;
-    }
-    buffer::put(s, room.len(), room, 0);
-}
-
-// The record with these counts and numbers, sound or not.
-fn read_curve(points: u64, knot_count: u64, xs: &[f64], ys: &[f64], knots: &[f64]) -> Curve
-    ensures { λ r. ⌜ r ≡ readCurve points «knot_count» (now (xs .entry)) (now (ys .entry)) (now (knots .entry)) ⌝ }
-{
-    let mut x = [0.0; 66];
-    fill(xs, &mut x);
-    let mut y = [0.0; 66];
-    fill(ys, &mut y);
-    let mut u = [0.0; 70];
-    fill(knots, &mut u);
-    Curve {
-        points: points as usize,
-        knot_count: knot_count as usize,
-        xs: x,
-        ys: y,
-        knots: u,
-    }
-}
-
-// Puts the numbers of d into out from index at on.
-fn write(d: Dv, out: &mut [f64], at: usize)
-    requires { ⌜ at + 28 ≤ length (now out) ⌝ }
-    ensures { λ _. ⌜ now (out .exit) ≡ paste (now (out .entry)) at (d .v ∷ d .g) 28 ⌝ }
-{
-    let g = d.g;
-    out[at] = d.v;
-    buffer::put(&g, 27, out, at + 1);
-}
-
-// Answers a value with partials: 14 where out has no room for it.
-fn answer(d: Dv, out: &mut [f64], count: &mut u64) -> u64
-    ensures { λ r. ⌜ Answered d (now (out .entry)) (now (count .entry)) r (now (out .exit)) (now (count .exit)) ⌝ }
-{
-    if out.len() < 28 {
-        return 14;
-    }
-    write(d, out, 0);
-    *count = d.n as u64;
-    0
-}
-
-// Answers a vector with partials: 14 where out or counts has no room for it.
-fn answer_vector(a: P2d, out: &mut [f64], counts: &mut [u64]) -> u64
-    ensures { λ r. ⌜ AnsweredV (viewD a) (now (out .entry)) (now (counts .entry)) r (now (out .exit)) (now (counts .exit)) ⌝ }
-{
-    if out.len() < 56 {
-        return 14;
-    }
-    if counts.len() < 2 {
-        return 14;
-    }
-    write(a.x, out, 0);
-    write(a.y, out, 28);
-    counts[0] = a.x.n as u64;
-    counts[1] = a.y.n as u64;
-    0
-}
-
-// Answers two doubles: 14 where out has no room for them.
-fn answer_pair(a: P2, out: &mut [f64]) -> u64
-    ensures { λ r. ⌜ AnsweredP (view a) (now (out .entry)) r (now (out .exit)) ⌝ }
-{
-    if out.len() < 2 {
-        return 14;
-    }
-    out[0] = a.x;
-    out[1] = a.y;
-    0
-}
-
-// Puts the values of five rows into out, one behind the other, and their counts into counts.
-fn write_rows(rows: [[Dv; 4]; 5], out: &mut [f64], counts: &mut [u64])
-    requires { ⌜ 560 ≤ length (now out) ⌝ ∗ ⌜ 20 ≤ length (now counts) ⌝ }
-    ensures { λ _. ⌜ now (out .exit) ≡ putValues rows (now (out .entry)) ⌝ ∗ ⌜ now (counts .exit) ≡ putCounts rows (now (counts .entry)) ⌝ }
-{
-    for i in 0..20 {
-        let d = rows[i / 4][i % 4];
-        write(d, out, 28 * i);
-        counts[i] = d.n as u64;
-    }
-}
-
-// Answers the orders of a basis: 14 where out or counts has no room for them.
-fn answer_rows(rows: [[Dv; 4]; 5], out: &mut [f64], counts: &mut [u64]) -> u64
-    ensures { λ r. ⌜ AnsweredB rows (now (out .entry)) (now (counts .entry)) r (now (out .exit)) (now (counts .exit)) ⌝ }
-{
-    if out.len() < 560 {
-        return 14;
-    }
-    if counts.len() < 20 {
-        return 14;
-    }
-    write_rows(rows, out, counts);
-    0
-}
-
-// Answers a parameter: 14 where out has no room for it, which comes before a refusal above that.
-fn answer_found(found: Found, out: &mut [f64]) -> u64
-    ensures { λ r. ⌜ r ≡ foundNumber found (now (out .entry)) ⌝ ∗ ⌜ now (out .exit) ≡ foundInto found (now (out .entry)) ⌝ }
-{
-    match found {
-        Found::At(t) => {
-            if out.len() < 1 {
-                return 14;
-            }
-            out[0] = t;
-            0
-        }
-        Found::Refused(k) => {
-            if k > 14 {
-                if out.len() < 1 {
-                    return 14;
-                }
-            }
-            k
-        }
-    }
-}
-
 // ---- values with partials
 
 // Variable i of xs.
@@ -275,7 +80,7 @@ pub extern "C" fn threshdune_partials_var(
 ) -> u64
     ensures { λ r. ⌜ Answered (varDv (now (xs .entry)) i) (now (out .entry)) (now (count .entry)) r (now (out .exit)) (now (count .exit)) ⌝ }
 {
-    answer(Dv::var(xs, i as usize), out, count)
+    crossing::answer(Dv::var(xs, i as usize), out, count)
 }
 
 // a + b.
@@ -290,9 +95,9 @@ pub extern "C" fn threshdune_partials_add(
 ) -> u64
     ensures { λ r. ⌜ Answered (addDv (readDv (now (a .entry)) 0 «a_count») (readDv (now (b .entry)) 0 «b_count»)) (now (out .entry)) (now (count .entry)) r (now (out .exit)) (now (count .exit)) ⌝ }
 {
-    let x = read(a, 0, a_count as usize);
-    let y = read(b, 0, b_count as usize);
-    answer(x.add(y), out, count)
+    let x = crossing::read_value(a, a_count as usize);
+    let y = crossing::read_value(b, b_count as usize);
+    crossing::answer(x.add(y), out, count)
 }
 
 // a - b.
@@ -307,9 +112,9 @@ pub extern "C" fn threshdune_partials_sub(
 ) -> u64
     ensures { λ r. ⌜ Answered (subDv (readDv (now (a .entry)) 0 «a_count») (readDv (now (b .entry)) 0 «b_count»)) (now (out .entry)) (now (count .entry)) r (now (out .exit)) (now (count .exit)) ⌝ }
 {
-    let x = read(a, 0, a_count as usize);
-    let y = read(b, 0, b_count as usize);
-    answer(x.sub(y), out, count)
+    let x = crossing::read_value(a, a_count as usize);
+    let y = crossing::read_value(b, b_count as usize);
+    crossing::answer(x.sub(y), out, count)
 }
 
 // a * b.
@@ -324,9 +129,9 @@ pub extern "C" fn threshdune_partials_mul(
 ) -> u64
     ensures { λ r. ⌜ Answered (mulDv (readDv (now (a .entry)) 0 «a_count») (readDv (now (b .entry)) 0 «b_count»)) (now (out .entry)) (now (count .entry)) r (now (out .exit)) (now (count .exit)) ⌝ }
 {
-    let x = read(a, 0, a_count as usize);
-    let y = read(b, 0, b_count as usize);
-    answer(x.mul(y), out, count)
+    let x = crossing::read_value(a, a_count as usize);
+    let y = crossing::read_value(b, b_count as usize);
+    crossing::answer(x.mul(y), out, count)
 }
 
 // a / b.
@@ -341,9 +146,9 @@ pub extern "C" fn threshdune_partials_div(
 ) -> u64
     ensures { λ r. ⌜ Answered (divDv (readDv (now (a .entry)) 0 «a_count») (readDv (now (b .entry)) 0 «b_count»)) (now (out .entry)) (now (count .entry)) r (now (out .exit)) (now (count .exit)) ⌝ }
 {
-    let x = read(a, 0, a_count as usize);
-    let y = read(b, 0, b_count as usize);
-    answer(x.div(y), out, count)
+    let x = crossing::read_value(a, a_count as usize);
+    let y = crossing::read_value(b, b_count as usize);
+    crossing::answer(x.div(y), out, count)
 }
 
 // -a.
@@ -356,8 +161,8 @@ pub extern "C" fn threshdune_partials_neg(
 ) -> u64
     ensures { λ r. ⌜ Answered (negDv (readDv (now (a .entry)) 0 «a_count»)) (now (out .entry)) (now (count .entry)) r (now (out .exit)) (now (count .exit)) ⌝ }
 {
-    let x = read(a, 0, a_count as usize);
-    answer(x.neg(), out, count)
+    let x = crossing::read_value(a, a_count as usize);
+    crossing::answer(x.neg(), out, count)
 }
 
 // The root of a.
@@ -370,8 +175,8 @@ pub extern "C" fn threshdune_partials_root(
 ) -> u64
     ensures { λ r. ⌜ Answered (rootDv (readDv (now (a .entry)) 0 «a_count»)) (now (out .entry)) (now (count .entry)) r (now (out .exit)) (now (count .exit)) ⌝ }
 {
-    let x = read(a, 0, a_count as usize);
-    answer(x.root(), out, count)
+    let x = crossing::read_value(a, a_count as usize);
+    crossing::answer(x.root(), out, count)
 }
 
 // How far t lies outside lo to hi.
@@ -386,8 +191,8 @@ pub extern "C" fn threshdune_partials_overshoot(
 ) -> u64
     ensures { λ r. ⌜ Answered (overshootDv (readDv (now (t .entry)) 0 «t_count») lo hi) (now (out .entry)) (now (count .entry)) r (now (out .exit)) (now (count .exit)) ⌝ }
 {
-    let x = read(t, 0, t_count as usize);
-    answer(x.overshoot(lo, hi), out, count)
+    let x = crossing::read_value(t, t_count as usize);
+    crossing::answer(x.overshoot(lo, hi), out, count)
 }
 
 // Whether the value and each counted partial is finite.
@@ -395,7 +200,7 @@ pub extern "C" fn threshdune_partials_overshoot(
 pub extern "C" fn threshdune_partials_is_fine(a: &[f64], a_count: u64) -> bool
     ensures { λ r. ⌜ r ≡ fineDv (readDv (now (a .entry)) 0 «a_count») ⌝ }
 {
-    let x = read(a, 0, a_count as usize);
+    let x = crossing::read_value(a, a_count as usize);
     x.is_fine()
 }
 
@@ -408,7 +213,7 @@ pub extern "C" fn threshdune_plane_add(ax: f64, ay: f64, bx: f64, by: f64, out: 
 {
     let a = P2 { x: ax, y: ay };
     let b = P2 { x: bx, y: by };
-    answer_pair(a.add(b), out)
+    crossing::answer_pair(a.add(b), out)
 }
 
 // a - b.
@@ -418,7 +223,7 @@ pub extern "C" fn threshdune_plane_sub(ax: f64, ay: f64, bx: f64, by: f64, out: 
 {
     let a = P2 { x: ax, y: ay };
     let b = P2 { x: bx, y: by };
-    answer_pair(a.sub(b), out)
+    crossing::answer_pair(a.sub(b), out)
 }
 
 // k times a.
@@ -427,7 +232,7 @@ pub extern "C" fn threshdune_plane_scale(ax: f64, ay: f64, k: f64, out: &mut [f6
     ensures { λ r. ⌜ AnsweredP (scaleV plain (record { x = ax; y = ay }) k) (now (out .entry)) r (now (out .exit)) ⌝ }
 {
     let a = P2 { x: ax, y: ay };
-    answer_pair(a.scale(k), out)
+    crossing::answer_pair(a.scale(k), out)
 }
 
 // The direction of a.
@@ -436,7 +241,7 @@ pub extern "C" fn threshdune_plane_unit(ax: f64, ay: f64, out: &mut [f64]) -> u6
     ensures { λ r. ⌜ AnsweredP (unitV plain (record { x = ax; y = ay })) (now (out .entry)) r (now (out .exit)) ⌝ }
 {
     let a = P2 { x: ax, y: ay };
-    answer_pair(a.unit(), out)
+    crossing::answer_pair(a.unit(), out)
 }
 
 // The inner product of a and b.
@@ -472,9 +277,9 @@ pub extern "C" fn threshdune_plane_partials_add(
 ) -> u64
     ensures { λ r. ⌜ AnsweredV (addV dual (readV (now (a .entry)) (now («a_counts» .entry))) (readV (now (b .entry)) (now («b_counts» .entry)))) (now (out .entry)) (now (counts .entry)) r (now (out .exit)) (now (counts .exit)) ⌝ }
 {
-    let x = read_vector(a, a_counts);
-    let y = read_vector(b, b_counts);
-    answer_vector(x.add(y), out, counts)
+    let x = crossing::read_vector(a, a_counts);
+    let y = crossing::read_vector(b, b_counts);
+    crossing::answer_vector(x.add(y), out, counts)
 }
 
 // a - b.
@@ -489,9 +294,9 @@ pub extern "C" fn threshdune_plane_partials_sub(
 ) -> u64
     ensures { λ r. ⌜ AnsweredV (subV dual (readV (now (a .entry)) (now («a_counts» .entry))) (readV (now (b .entry)) (now («b_counts» .entry)))) (now (out .entry)) (now (counts .entry)) r (now (out .exit)) (now (counts .exit)) ⌝ }
 {
-    let x = read_vector(a, a_counts);
-    let y = read_vector(b, b_counts);
-    answer_vector(x.sub(y), out, counts)
+    let x = crossing::read_vector(a, a_counts);
+    let y = crossing::read_vector(b, b_counts);
+    crossing::answer_vector(x.sub(y), out, counts)
 }
 
 // k times a.
@@ -506,9 +311,9 @@ pub extern "C" fn threshdune_plane_partials_scale(
 ) -> u64
     ensures { λ r. ⌜ AnsweredV (scaleV dual (readV (now (a .entry)) (now («a_counts» .entry))) (readDv (now (k .entry)) 0 «k_count»)) (now (out .entry)) (now (counts .entry)) r (now (out .exit)) (now (counts .exit)) ⌝ }
 {
-    let x = read_vector(a, a_counts);
-    let y = read(k, 0, k_count as usize);
-    answer_vector(x.scale(y), out, counts)
+    let x = crossing::read_vector(a, a_counts);
+    let y = crossing::read_value(k, k_count as usize);
+    crossing::answer_vector(x.scale(y), out, counts)
 }
 
 // The direction of a.
@@ -521,8 +326,8 @@ pub extern "C" fn threshdune_plane_partials_unit(
 ) -> u64
     ensures { λ r. ⌜ AnsweredV (unitV dual (readV (now (a .entry)) (now («a_counts» .entry)))) (now (out .entry)) (now (counts .entry)) r (now (out .exit)) (now (counts .exit)) ⌝ }
 {
-    let x = read_vector(a, a_counts);
-    answer_vector(x.unit(), out, counts)
+    let x = crossing::read_vector(a, a_counts);
+    crossing::answer_vector(x.unit(), out, counts)
 }
 
 // The inner product of a and b.
@@ -537,9 +342,9 @@ pub extern "C" fn threshdune_plane_partials_dot(
 ) -> u64
     ensures { λ r. ⌜ Answered (dotV dual (readV (now (a .entry)) (now («a_counts» .entry))) (readV (now (b .entry)) (now («b_counts» .entry)))) (now (out .entry)) (now (count .entry)) r (now (out .exit)) (now (count .exit)) ⌝ }
 {
-    let x = read_vector(a, a_counts);
-    let y = read_vector(b, b_counts);
-    answer(x.dot(y), out, count)
+    let x = crossing::read_vector(a, a_counts);
+    let y = crossing::read_vector(b, b_counts);
+    crossing::answer(x.dot(y), out, count)
 }
 
 // The length of a.
@@ -552,8 +357,8 @@ pub extern "C" fn threshdune_plane_partials_norm(
 ) -> u64
     ensures { λ r. ⌜ Answered (normV dual (readV (now (a .entry)) (now («a_counts» .entry)))) (now (out .entry)) (now (count .entry)) r (now (out .exit)) (now (count .exit)) ⌝ }
 {
-    let x = read_vector(a, a_counts);
-    answer(x.norm(), out, count)
+    let x = crossing::read_vector(a, a_counts);
+    crossing::answer(x.norm(), out, count)
 }
 
 // ---- the basis with partials
@@ -571,10 +376,10 @@ pub extern "C" fn threshdune_partials_basis(
 ) -> u64
     ensures { λ r. ⌜ AnsweredB (derivativesOf dual (readSix (now (w .entry)) (now («w_counts» .entry))) 2 (readDv (now (t .entry)) 0 «t_count») order) (now (out .entry)) (now (counts .entry)) r (now (out .exit)) (now (counts .exit)) ⌝ }
 {
-    let six = read_six(w, w_counts);
-    let x = read(t, 0, t_count as usize);
-    let rows = basis::dual::basis(six, x, order as usize);
-    answer_rows(rows, out, counts)
+    let six = crossing::read_six(w, w_counts);
+    let x = crossing::read_value(t, t_count as usize);
+    let rows = basis_partials::basis(six, x, order as usize);
+    crossing::answer_rows(rows, out, counts)
 }
 
 // ---- curves
@@ -684,7 +489,7 @@ pub extern "C" fn threshdune_closest(
     ensures { λ r. ⌜ Answer (placed (row 14 (ltb (length (now (out .entry))) 1)) (sliceRules (now (coords .entry)) true (now (knots .entry)) ++ searchRules (sliceShape (now (coords .entry)) (now (knots .entry))) (record { x = px; y = py }))) (closestOf (sliceShape (now (coords .entry)) (now (knots .entry))) (record { x = px; y = py }) ∷ []) 1 (now (out .entry)) r (now (out .exit)) ⌝ }
 {
     let found = closest::closest_slices(coords, knots, px, py);
-    answer_found(found, out)
+    crossing::answer_found(found, out)
 }
 
 // ---- curves as records: two counts and three rooms, checked again like any other
@@ -703,7 +508,7 @@ pub extern "C" fn threshdune_record_evaluate(
 ) -> u64
     ensures { λ r. ⌜ Answer (recordRules (readCurve points «knot_count» (now (xs .entry)) (now (ys .entry)) (now (knots .entry))) ++ pointRules (shapeOf (readCurve points «knot_count» (now (xs .entry)) (now (ys .entry)) (now (knots .entry)))) t order (now (out .entry))) (pointOrders (shapeOf (readCurve points «knot_count» (now (xs .entry)) (now (ys .entry)) (now (knots .entry)))) t order) (numbersFor order) (now (out .entry)) r (now (out .exit)) ⌝ }
 {
-    let c = read_curve(points, knot_count, xs, ys, knots);
+    let c = crossing::read_curve(points, knot_count, xs, ys, knots);
     let r = curve::evaluate(c, t, order as usize, out);
     r.number
 }
@@ -721,7 +526,7 @@ pub extern "C" fn threshdune_record_point_tangent(
 ) -> u64
     ensures { λ r. ⌜ Answer (recordRules (readCurve points «knot_count» (now (xs .entry)) (now (ys .entry)) (now (knots .entry))) ++ tangentRules (shapeOf (readCurve points «knot_count» (now (xs .entry)) (now (ys .entry)) (now (knots .entry)))) t (now (out .entry))) (tangentNumbers (shapeOf (readCurve points «knot_count» (now (xs .entry)) (now (ys .entry)) (now (knots .entry)))) t) 4 (now (out .entry)) r (now (out .exit)) ⌝ }
 {
-    let c = read_curve(points, knot_count, xs, ys, knots);
+    let c = crossing::read_curve(points, knot_count, xs, ys, knots);
     let r = curve::point_tangent(c, t, out);
     r.number
 }
@@ -738,7 +543,7 @@ pub extern "C" fn threshdune_record_length(
 ) -> u64
     ensures { λ r. ⌜ Answer (recordRules (readCurve points «knot_count» (now (xs .entry)) (now (ys .entry)) (now (knots .entry))) ++ lengthRules (shapeOf (readCurve points «knot_count» (now (xs .entry)) (now (ys .entry)) (now (knots .entry)))) (now (out .entry))) (lengthOf plain (shapeOf (readCurve points «knot_count» (now (xs .entry)) (now (ys .entry)) (now (knots .entry)))) ∷ []) 1 (now (out .entry)) r (now (out .exit)) ⌝ }
 {
-    let c = read_curve(points, knot_count, xs, ys, knots);
+    let c = crossing::read_curve(points, knot_count, xs, ys, knots);
     let r = curve::length(c, out);
     r.number
 }
@@ -755,7 +560,7 @@ pub extern "C" fn threshdune_record_domain(
 ) -> u64
     ensures { λ r. ⌜ Answer (recordRules (readCurve points «knot_count» (now (xs .entry)) (now (ys .entry)) (now (knots .entry))) ++ domainRules (now (out .entry))) (domainOf (shapeOf (readCurve points «knot_count» (now (xs .entry)) (now (ys .entry)) (now (knots .entry))))) 2 (now (out .entry)) r (now (out .exit)) ⌝ }
 {
-    let c = read_curve(points, knot_count, xs, ys, knots);
+    let c = crossing::read_curve(points, knot_count, xs, ys, knots);
     let r = curve::domain(c, out);
     r.number
 }
@@ -774,7 +579,7 @@ pub extern "C" fn threshdune_record_samples(
 ) -> u64
     ensures { λ r. ⌜ AnswerCounted (recordRules (readCurve points «knot_count» (now (xs .entry)) (now (ys .entry)) (now (knots .entry))) ++ sampleRules (shapeOf (readCurve points «knot_count» (now (xs .entry)) (now (ys .entry)) (now (knots .entry)))) «per_span» (now (out .entry))) (samplesOf (shapeOf (readCurve points «knot_count» (now (xs .entry)) (now (ys .entry)) (now (knots .entry)))) «per_span») (now (out .entry)) (now (count .entry)) r (now (out .exit)) (now (count .exit)) ⌝ }
 {
-    let c = read_curve(points, knot_count, xs, ys, knots);
+    let c = crossing::read_curve(points, knot_count, xs, ys, knots);
     let r = curve::samples(c, per_span as usize, out, count);
     r.number
 }
@@ -793,7 +598,7 @@ pub extern "C" fn threshdune_record_closest(
 ) -> u64
     ensures { λ r. ⌜ Answer (placed (row 14 (ltb (length (now (out .entry))) 1)) (recordRules (readCurve points «knot_count» (now (xs .entry)) (now (ys .entry)) (now (knots .entry))) ++ searchRules (shapeOf (readCurve points «knot_count» (now (xs .entry)) (now (ys .entry)) (now (knots .entry)))) (record { x = px; y = py }))) (closestOf (shapeOf (readCurve points «knot_count» (now (xs .entry)) (now (ys .entry)) (now (knots .entry)))) (record { x = px; y = py }) ∷ []) 1 (now (out .entry)) r (now (out .exit)) ⌝ }
 {
-    let c = read_curve(points, knot_count, xs, ys, knots);
+    let c = crossing::read_curve(points, knot_count, xs, ys, knots);
     let found = closest::closest(c, px, py);
-    answer_found(found, out)
+    crossing::answer_found(found, out)
 }

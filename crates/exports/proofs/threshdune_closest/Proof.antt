@@ -4,7 +4,7 @@ use denote.Ref.{now}
 use lib.Ieee.{Float}
 use Rattle.plane.specs.Vector.{Vector}
 use Rattle.curve.specs.Build.{sliceShape, sliceRules}
-use Rattle.exports.proofs.Placed.{low-slices, into}
+use Rattle.crossing.proofs.Placed.{low-slices, into}
 use borrow.Author.Needs.{needs}
 use Rattle.exports.proofs.threshdune_closest.Statement.{statement}
 use Rattle.exports.proofs.threshdune_closest.Tie as tie

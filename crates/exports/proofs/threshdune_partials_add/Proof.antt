@@ -3,11 +3,11 @@ use borrow.Author.Needs.{needs}
 use Rattle.exports.proofs.threshdune_partials_add.Statement.{statement}
 use Rattle.exports.proofs.threshdune_partials_add.Tie as tie
 
-read-requires : tie.Need-read-requires
-read-requires c κs = search needs
+read-value-requires : tie.Need-read-value-requires
+read-value-requires c κs = search needs
 
-read-requires-2 : tie.Need-read-requires-2
-read-requires-2 c κs = search needs
+read-value-requires-2 : tie.Need-read-value-requires-2
+read-value-requires-2 c κs = search needs
 
 add-requires : tie.Need-add-requires
 add-requires c κs = search needs
@@ -21,9 +21,9 @@ same-length c = search needs
 returns : tie.Need-returns
 returns c =
     let op = c .before .before .before .before .before in
-    rw (op .add .ensures, op .before .read2 .ensures, op .before .before .read .ensures) at (c .before .before .answer .ensures)
+    rw (op .add .ensures, op .before .read-value2 .ensures, op .before .before .read-value .ensures) at (c .before .before .answer .ensures)
 
 pub threshdune-partials-add-spec : {M : Type 1} → statement M
 threshdune-partials-add-spec =
     tie.close
-    (tie.spec read-requires read-requires-2 add-requires answer-requires same-length returns)
+    (tie.spec read-value-requires read-value-requires-2 add-requires answer-requires same-length returns)

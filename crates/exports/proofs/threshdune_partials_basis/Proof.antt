@@ -6,8 +6,8 @@ use Rattle.exports.proofs.threshdune_partials_basis.Tie as tie
 read-six-requires : tie.Need-read-six-requires
 read-six-requires c κs = search needs
 
-read-requires : tie.Need-read-requires
-read-requires c κs = search needs
+read-value-requires : tie.Need-read-value-requires
+read-value-requires c κs = search needs
 
 basis-requires : tie.Need-basis-requires
 basis-requires c κs = search needs
@@ -24,14 +24,14 @@ same-length-2 c = search needs
 returns : tie.Need-returns
 returns c =
     let rows = c .before .before .before .before .before .before .before in
-    rw (rows .basis .ensures, rows .before .read .ensures, rows .before .before .read-six .ensures) at (c .before .before .before .before .answer-rows .ensures)
+    rw (rows .basis .ensures, rows .before .read-value .ensures, rows .before .before .read-six .ensures) at (c .before .before .before .before .answer-rows .ensures)
 
 pub threshdune-partials-basis-spec : {M : Type 1} → statement M
 threshdune-partials-basis-spec =
     tie.close
     (tie.spec
     read-six-requires
-    read-requires
+    read-value-requires
     basis-requires
     answer-rows-requires
     same-length

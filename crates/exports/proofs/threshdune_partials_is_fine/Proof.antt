@@ -4,14 +4,14 @@ use borrow.Author.Needs.{needs}
 use Rattle.exports.proofs.threshdune_partials_is_fine.Statement.{statement}
 use Rattle.exports.proofs.threshdune_partials_is_fine.Tie as tie
 
-read-requires : tie.Need-read-requires
-read-requires c κs = search needs
+read-value-requires : tie.Need-read-value-requires
+read-value-requires c κs = search needs
 
 is-fine-requires : tie.Need-is-fine-requires
 is-fine-requires c κs = search needs
 
 returns : tie.Need-returns
-returns c = c .is-fine .ensures ∙ rw (c .before .read .ensures)
+returns c = c .is-fine .ensures ∙ rw (c .before .read-value .ensures)
 
 pub threshdune-partials-is-fine-spec : {M : Type 1} → statement M
-threshdune-partials-is-fine-spec = tie.close (tie.spec read-requires is-fine-requires returns)
+threshdune-partials-is-fine-spec = tie.close (tie.spec read-value-requires is-fine-requires returns)

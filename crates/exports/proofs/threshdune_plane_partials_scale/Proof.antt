@@ -9,8 +9,8 @@ use Rattle.exports.proofs.threshdune_plane_partials_scale.Tie as tie
 read-vector-requires : tie.Need-read-vector-requires
 read-vector-requires c κs = search needs
 
-read-requires : tie.Need-read-requires
-read-requires c κs = search needs
+read-value-requires : tie.Need-read-value-requires
+read-value-requires c κs = search needs
 
 scale-requires : tie.Need-scale-requires
 scale-requires c κs = search needs
@@ -27,7 +27,7 @@ same-length-2 c = search needs
 returns : tie.Need-returns
 returns c =
     let op = c .before .before .before .before .before .before .before in
-    rw (op .scale .ensures ∙ (λ i. scaleV dual (op .before .before .read-vector .ensures i) (op .before .read .ensures i)))
+    rw (op .scale .ensures ∙ (λ i. scaleV dual (op .before .before .read-vector .ensures i) (op .before .read-value .ensures i)))
     at (c .before .before .before .before .answer-vector .ensures)
 
 pub threshdune-plane-partials-scale-spec : {M : Type 1} → statement M
@@ -35,7 +35,7 @@ threshdune-plane-partials-scale-spec =
     tie.close
     (tie.spec
     read-vector-requires
-    read-requires
+    read-value-requires
     scale-requires
     answer-vector-requires
     same-length

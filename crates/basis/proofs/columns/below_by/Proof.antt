@@ -1,4 +1,4 @@
--- `basis::columns::below_by` meets its contract: the difference of two numbers up to 3 fits.
+-- `basis::columns::below_by` meets its contract: the difference of two bytes fits.
 use Rattle.basis.proofs.Signed.{diff-fits, diff-is}
 use borrow.Author.Needs.{needs}
 use Rattle.basis.proofs.columns.below_by.Statement.{statement}

@@ -1,0 +1,72 @@
+-- `basis_partials::values_of` meets its contract: the loop copies one value in each turn.
+use mathlib.Core.Path.{refl}
+use Prim.Native.Nat.{_-_}
+use Rattle.partials.specs.Dual.{dual}
+use Rattle.meaning.specs.Table.{at2, put2}
+use Rattle.meaning.proofs.For.{At, first, next, last}
+use Rattle.basis.specs.Basis.{valuesOf}
+use borrow.Author.Needs.{needs}
+use Rattle.basis_partials.proofs.values_of.Statement.{statement}
+use Rattle.basis_partials.proofs.values_of.Tie as tie
+
+abbrev Inv-loop : tie.InvT-loop
+Inv-loop ndu ders₀ j₀ ders j = At 0 4 (λ i d. put2 d 0 i (at2 dual ndu i 3)) ders₀ j ders
+
+abbrev μ-loop : tie.MeasureT-loop
+μ-loop ndu ders₀ j₀ ders j = 4 - j
+
+cst-requires : tie.Need-cst-requires Inv-loop μ-loop
+cst-requires c κs = search needs
+
+loop-holds : tie.Need-loop-holds Inv-loop μ-loop
+loop-holds c = first (search needs)
+
+mul-ders : tie.Need-mul-ders Inv-loop μ-loop
+mul-ders c = search needs
+
+index-1-ders : tie.Need-index-1-ders Inv-loop μ-loop
+index-1-ders c = search needs
+
+index-2-ders : tie.Need-index-2-ders Inv-loop μ-loop
+index-2-ders c = search needs
+
+mul-t16 : tie.Need-mul-t16 Inv-loop μ-loop
+mul-t16 c = search needs
+
+index-1-ders-2 : tie.Need-index-1-ders-2 Inv-loop μ-loop
+index-1-ders-2 c = search needs
+
+index-2-ders-2 : tie.Need-index-2-ders-2 Inv-loop μ-loop
+index-2-ders-2 c = search needs
+
+add-j : tie.Need-add-j Inv-loop μ-loop
+add-j c = search needs
+
+loop-less : tie.Need-loop-less Inv-loop μ-loop
+loop-less c = search needs
+
+loop-again : tie.Need-loop-again Inv-loop μ-loop
+loop-again c = next (c .before .before .loop .inv) (search needs) refl
+
+returns : tie.Need-returns Inv-loop μ-loop
+unfolding valuesOf
+returns c = rw (c .before .before .cst .ensures) at (last (c .before .loop .inv) (c .loop-test .left))
+
+pub values-of-spec : {M : Type 1} → statement M
+values-of-spec =
+    tie.close
+    (tie.spec
+    Inv-loop
+    μ-loop
+    cst-requires
+    loop-holds
+    mul-ders
+    index-1-ders
+    index-2-ders
+    mul-t16
+    index-1-ders-2
+    index-2-ders-2
+    add-j
+    loop-less
+    loop-again
+    returns)

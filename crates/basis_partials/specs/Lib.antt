@@ -1,0 +1,2 @@
+-- The structs of the code. The definitions are those of the crate `basis`, at `dual`.
+pub mod View

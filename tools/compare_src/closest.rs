@@ -13,8 +13,18 @@ use replaced::spline::{BSpline, Curve, P2, closest_param};
 
 /// How many disagreements of the unaltered file are told.
 const TOLD: usize = 6;
-/// 2^-484: the squares of smaller differences lose digits.
+/// 2^-484: the squares of smaller distances are subnormal, so that they lose digits, or 0.
 const VANISHING: f64 = f64::from_bits((1023 - 484) << 52);
+/// How many doubles apart two distances of a near tie are at most.
+const TIE: u64 = 2;
+
+/// Why the unaltered file finds another parameter.
+#[derive(Clone, Copy)]
+enum Cause {
+    Vanishing,
+    Tie,
+    Unknown,
+}
 
 pub fn run(random: &mut Random, rounds: u64) -> Tally {
     let mut tally = Tally::default();
@@ -142,13 +152,30 @@ impl<'a> Search<'a> {
         closest_param(&curve, self.point)
     }
 
-    /// Every difference from the point is so small that its square is subnormal or less.
-    fn tiny(&self) -> bool {
-        let near = |pair: &[f64; 2]| {
-            let d = [0, 1].map(|c: usize| (pair[c] - self.point[c]).abs());
-            d[0].max(d[1]) < VANISHING
+    /// Why `hypot` and the root choose different samples, by the distances that `hypot` gives them.
+    fn cause(&self) -> Cause {
+        let curve = curve(&self.points, self.knots);
+        let difference = |t: f64| {
+            let c = curve.eval(&t, 0)[0].val();
+            [c[0] - self.point[0], c[1] - self.point[1]]
         };
-        self.points.iter().all(near)
+        let samples = curve.samples(16);
+        let least = |distance: fn([f64; 2]) -> f64| {
+            let each = samples.iter().map(|t| difference(*t));
+            let chosen = each.min_by(|a, b| distance(*a).total_cmp(&distance(*b)));
+            let [x, y] = chosen.expect("the domain's end at least");
+            x.hypot(y)
+        };
+        let by_root = least(|[x, y]| (x * x + y * y).sqrt());
+        let by_hypot = least(|[x, y]| x.hypot(y));
+        let steps = by_root.to_bits() - by_hypot.to_bits();
+        if by_hypot < VANISHING {
+            Cause::Vanishing
+        } else if steps <= TIE {
+            Cause::Tie
+        } else {
+            Cause::Unknown
+        }
     }
 
     fn tell(&self) -> String {
@@ -176,16 +203,15 @@ impl Unlike {
             return;
         }
         tally.kind("(the unaltered file finds another parameter)");
-        if search.tiny() {
-            tally.kind("(of these in drawings whose squares vanish)");
-            return;
-        }
-        tally.kind(match kind.contains("mirrored") {
-            true => "(of these by a near tie, mirrored)",
-            false => "(of these by a near tie, not mirrored)",
+        let cause = search.cause();
+        tally.kind(match (cause, kind.contains("mirrored")) {
+            (Cause::Vanishing, _) => "(of these the least distance is below 2^-484)",
+            (Cause::Tie, true) => "(of these by a near tie, mirrored)",
+            (Cause::Tie, false) => "(of these by a near tie, not mirrored)",
+            (Cause::Unknown, _) => "(of these NOT EXPLAINED)",
         });
         let long = search.points.len();
-        let told = matches!(search.form, Form::Slices { .. });
+        let told = matches!((&search.form, cause), (Form::Slices { .. }, Cause::Tie));
         if told && (self.told.len() < TOLD || long < self.told[TOLD - 1].0) {
             let [ours, theirs] = [t, theirs].map(|t| hex(&[t]));
             let words = format!(

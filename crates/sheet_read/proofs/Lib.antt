@@ -2,3 +2,5 @@
 pub mod Every
 pub mod Numerals
 pub mod Sections
+pub mod Longest
+pub mod Canonical

@@ -1,17 +1,17 @@
 -- Digits: what a test of a byte tells, and that the numbers they write fit. Assumes nothing.
-use mathlib.Core.Path.{_≡_, refl}
+use mathlib.Core.Path.{_≡_, refl, sym, ap, _∙_}
 use mathlib.Core.Bool.{Bool, true, false, not, _||_}
 use mathlib.Core.List.{List}
 use Prim.Native.Nat.{ℕ, zero, suc, _+_, _-_, _*_, _^_, _≤_, _<_}
-use native.Mathlib.Nat.{pow-suc, pow-le-pow-right, mul-le-mul-left, lt-of-lt-of-le, lt-of-le-of-lt, zero-mul}
+use native.Mathlib.Nat.{pow-suc, pow-le-pow-right, mul-le-mul-left, lt-of-lt-of-le, lt-of-le-of-lt, zero-mul, add-zero}
 use native.Mathlib.Numerals.{add-one}
 use native.Mathlib.Omega.{arith}
 use lib.Arith.{digits-lt}
 use lib.Dec.{leb, eqb}
 use lib.ListN.{length, List·getD-eq-default}
 use Rattle.meaning.specs.Loops.{turns}
-use borrow.Author.Tests.{leb-true, le-leb, lt-leb}
-use Rattle.knots.proofs.Tests.{by-two, and-left, and-right}
+use borrow.Author.Tests.{leb-true, le-leb, lt-leb, eqb-false, not-true, not-false}
+use Rattle.knots.proofs.Tests.{no, by-two, and-left, and-right}
 use Rattle.knots.proofs.Searching.{seek-first}
 use Rattle.sheet_read.specs.Number.{within, isDecimal, isLetter, digitOf, numberAt, digitsAt, countAt, countStands}
 use Rattle.sheet_read.specs.Text.{byteAt}
@@ -106,3 +106,27 @@ module _ (base : ℕ) (s : List ℕ) (at : ℕ) (h : length s ≤ at) where
   pub nothing-past : (n : ℕ) → numberAt base s n at ≡ 0
   unfolding numberAt
   nothing-past n = no-more (n - 0)
+
+-- ---- what a count that stands tells of its digits
+
+module _ (s : List ℕ) (at : ℕ) where
+  -- the first of several digits is no zero
+  pub first-digit : 1 ≤ digitsAt s at → eqb (byteAt s at) 48 ≡ false → 1 ≤ digitOf (byteAt s at)
+  unfolding digitsAt
+  first-digit h g =
+      let d : isDecimal (byteAt s at) ≡ true =
+      ap (λ (i : ℕ). isDecimal (byteAt s i)) (sym (add-zero at)) ∙ not-false _ (seek-first (λ i. not (isDecimal (byteAt s (at + i)))) 0 4 (omega arith) .before 0 (omega arith) h) in
+      rw (decimal-is (byteAt s at) d) (omega (arith, not-below 48 57 (byteAt s at) d, eqb-false (byteAt s at) 48 g))
+
+  module _ (most : ℕ) (h : countStands s most at ≡ true) where
+    pub at-least-one : 1 ≤ digitsAt s at
+    unfolding countStands
+    at-least-one = leb-true 1 (digitsAt s at) (and-left _ _ h)
+
+    pub no-zero : eqb (digitsAt s at) 1 ≡ false → eqb (byteAt s at) 48 ≡ false
+    unfolding countStands
+    no-zero g = led (eqb (digitsAt s at) 1) (eqb (byteAt s at) 48) (and-left _ _ (and-right (leb 1 (digitsAt s at)) _ h)) g
+      where
+        led : (a b : Bool) → (a || not b) ≡ true → a ≡ false → b ≡ false
+        led true b e f = no (sym f)
+        led false b e f = not-true b e

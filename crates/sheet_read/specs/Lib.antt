@@ -1,4 +1,5 @@
--- The sheet: how it is written, what it says, and what is printed of it.
+-- The sheet: bytes and words, numbers, sections; and how what it says is written.
 pub mod Text
 pub mod Number
 pub mod Grammar
+pub mod Written

@@ -3,11 +3,11 @@
 use Prim.Native.Nat.{ℕ, _+_, _-_, _*_}
 use mathlib.Core.Bool.{Bool, not, _&&_, _||_, cond}
 use mathlib.Core.List.{List}
-use lib.Dec.{leb, eqb}
+use lib.Dec.{leb, ltb, eqb}
 use lib.Ieee.{Float, binary64, ofBits}
 use Rattle.meaning.specs.Loops.{run}
 use Rattle.knots.specs.Search.{seek}
-use Rattle.sheet_read.specs.Text.{text, byteAt, every}
+use Rattle.sheet_read.specs.Text.{byteAt, every}
 
 abbrev pub within : ℕ → ℕ → ℕ → Bool
 within lo hi b = leb lo b && leb b hi
@@ -25,6 +25,10 @@ isHex b = isDecimal b || isLetter b
 -- what a digit stands for, and 0 for a byte that is none
 unfoldable pub digitOf : ℕ → ℕ
 digitOf b = cond (isDecimal b) (b - 48) (cond (isLetter b) (b - 55) 0)
+
+-- and the byte of a digit
+abbrev pub glyph : ℕ → ℕ
+glyph d = cond (ltb d 10) (48 + d) (55 + d)
 
 -- the number that n digits from `at` on write, the most significant first
 unfoldable pub numberAt : ℕ → List ℕ → ℕ → ℕ → ℕ

@@ -3,3 +3,5 @@ pub mod Front
 pub mod Putting
 pub mod Lines
 pub mod Sheets
+pub mod Decimals
+pub mod Works

@@ -12,7 +12,8 @@ use lib.Seq.{paste, paste-zero, take-paste, drop-paste, take-length, drop-drop}
 use Rattle.knots.proofs.Tests.{by-two}
 use Rattle.knots.proofs.Filling.{length-listed}
 use Rattle.sheet_read.specs.Text.{text}
-use Rattle.sheet_text.specs.Printed.{glyph, hexText, decimalText, doubleText, refusalText, headText, pointText, Put}
+use Rattle.sheet_read.specs.Number.{glyph}
+use Rattle.sheet_text.specs.Printed.{hexText, decimalText, doubleText, refusalText, headText, pointText, Put}
 
 -- two texts, each in its place
 twice : (out t u : List ℕ) (at : ℕ) → at ≤ length out

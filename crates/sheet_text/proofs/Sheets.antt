@@ -90,3 +90,8 @@ pub counted : {s out : List ℕ} {work : List Float} {n : ℕ} {out′ : List �
 counted {s} {out} {work} a =
     by-two (tooShort out) (λ h. rw (a .count, h) (omega arith))
     (λ h. rw (a .count, h) (omega (arith, answer-short s work, ltb-false (length out) 36876 h)))
+
+-- two outcomes that the contract allows coincide
+pub one-answer : {s out : List ℕ} {work : List Float} {n n′ : ℕ} {out₁ out₂ : List ℕ} {work₁ work₂ : List Float} → Answered s out work n out₁ work₁
+    → Answered s out work n′ out₂ work₂ → (n ≡ n′) × (out₁ ≡ out₂) × (work₁ ≡ work₂)
+one-answer a b = (a .count ∙ sym (b .count), a .bytes ∙ sym (b .bytes), a .lent ∙ sym (b .lent))

@@ -10,10 +10,7 @@ use lib.Dec.{ltb}
 use lib.Ieee.{Float, binary64, toBits}
 use Rattle.knots.specs.Search.{listed}
 use Rattle.sheet_read.specs.Text.{text}
-
--- the byte of a digit: `0` to `9`, then `A` to `F`
-abbrev pub glyph : ℕ → ℕ
-glyph d = cond (ltb d 10) (48 + d) (55 + d)
+use Rattle.sheet_read.specs.Number.{glyph}
 
 -- 64 bits as 16 digits, four bits to each
 unfoldable pub hexText : ℕ → List ℕ

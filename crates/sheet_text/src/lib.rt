@@ -4,9 +4,10 @@ ghost use mathlib.Core.List.{_++_};
 ghost use Prim.Native.Nat.{_+_, _*_, _≤_, _<_};
 ghost use lib.ListN.{length, take};
 ghost use lib.Ieee.{binary64, toBits};
+ghost use Rattle.sheet_read.specs.Number.{glyph};
 ghost use Rattle.sheet_read.specs.Grammar.{numbersAt};
 ghost use Rattle.sheet_read.proofs.Sections.{Limits};
-ghost use Rattle.sheet_text.specs.Printed.{glyph, hexText, decimalText, doubleText, refusalText, headText, pointText, Put};
+ghost use Rattle.sheet_text.specs.Printed.{hexText, decimalText, doubleText, refusalText, headText, pointText, Put};
 ghost use Rattle.sheet_text.specs.Curves.{lineText, linesText, builtText};
 ghost use Rattle.sheet_text.specs.Answer.{sheetText, sheetWork, Answered};
 use curve::Built;
@@ -104,6 +105,7 @@ fn put_refusal(out: &mut [u8], at: usize, number: u64) -> usize
 fn put_head(out: &mut [u8], at: usize, points: u64, knots: u64) -> usize
     requires { ⌜ at + 12 ≤ length (now out) ⌝ }
     ensures { λ r. ⌜ Put (now (out .entry)) at (headText points knots) (now (out .exit)) r ⌝ }
+    ensures { λ r. ⌜ r ≤ at + 12 ⌝ }
 {
     let a = put_number(out, at, b"curve ", points);
     let b = put_number(out, a, b" ", knots);

@@ -3,7 +3,8 @@ use borrow.Author.Needs.{needs}
 use mathlib.Core.Path.{refl}
 use Prim.Native.Nat.{_-_, _*_, _/_, _%_, _^_}
 use Rattle.knots.proofs.Filling.{Filled, empty, filled, full}
-use Rattle.sheet_text.specs.Printed.{glyph, hexText}
+use Rattle.sheet_read.specs.Number.{glyph}
+use Rattle.sheet_text.specs.Printed.{hexText}
 use Rattle.sheet_text.proofs.hex_digits.Statement.{statement}
 use Rattle.sheet_text.proofs.hex_digits.Tie as tie
 

@@ -1,7 +1,7 @@
 -- `sheet_text::put_built` meets its contract: the refusal alone, or the head and the lines.
 use borrow.Author.Needs.{needs}
 use native.Mathlib.Omega.{arith}
-use Rattle.sheet_text.proofs.Putting.{joined, head-short}
+use Rattle.sheet_text.proofs.Putting.{joined}
 use Rattle.sheet_text.proofs.Lines.{built-refused, built-printed}
 use Rattle.sheet_text.proofs.put_built.Statement.{statement}
 use Rattle.sheet_text.proofs.put_built.Tie as tie
@@ -20,9 +20,8 @@ put-head-requires c κs = search needs
 
 put-lines-requires : tie.Need-put-lines-requires
 put-lines-requires c κs =
-    let h = c .before .before .before in
-    let b = h .before .before .before .before .before .before .before .args .b in
-    omega (arith, head-short (b .curve .points) (b .curve .«knot_count»), h .put-head .ensures .place, h .put-head .ensures .long)
+    let h = c .before .before .before .put-head in
+    omega (arith, h .ensures .1, h .ensures .0 .long)
 
 same-length-2 : tie.Need-same-length-2
 same-length-2 c = search needs
@@ -30,7 +29,7 @@ same-length-2 c = search needs
 returns-2 : tie.Need-returns-2
 returns-2 c =
     let h = c .before .before .before .before .before .before in
-    rw (built-printed _ _ _ (h .before .before .before .if1 .left)) (joined (h .put-head .ensures) (c .before .before .put-lines .ensures))
+    rw (built-printed _ _ _ (h .before .before .before .if1 .left)) (joined (h .put-head .ensures .0) (c .before .before .put-lines .ensures))
 
 pub put-built-spec : {M : Type 1} → statement M
 put-built-spec =

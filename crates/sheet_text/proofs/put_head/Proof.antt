@@ -2,7 +2,7 @@
 use borrow.Author.Needs.{needs}
 use native.Mathlib.Omega.{arith}
 use Rattle.sheet_text.specs.Printed.{headText}
-use Rattle.sheet_text.proofs.Putting.{joined, few-decimal}
+use Rattle.sheet_text.proofs.Putting.{joined, few-decimal, head-short}
 use Rattle.sheet_text.proofs.put_head.Statement.{statement}
 use Rattle.sheet_text.proofs.put_head.Tie as tie
 
@@ -35,7 +35,9 @@ returns : tie.Need-returns
 unfolding headText
 returns c =
     let k = c .before .before .before .before .before .before .before in
-    joined (k .before .before .before .before .before .put-number .ensures) (joined (k .put-number2 .ensures) (c .before .before .put .ensures))
+    let s = k .before .before .before .before .before .before .before .before .before in
+    let p = joined (k .before .before .before .before .before .put-number .ensures) (joined (k .put-number2 .ensures) (c .before .before .put .ensures)) in
+    (p, omega (arith, p .place, head-short (s .args .points) (s .args .knots)))
 
 pub put-head-spec : {M : Type 1} → statement M
 put-head-spec =

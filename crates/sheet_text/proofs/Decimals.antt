@@ -1,0 +1,79 @@
+-- What is printed in decimal is below 100, and so printed as a sheet writes a count. Assumes nothing.
+use mathlib.Core.Path.{_≡_, refl, sym, ap, _∙_}
+use mathlib.Core.Bool.{Bool, true, false, _&&_, cond}
+use mathlib.Core.List.{List, [], _∷_}
+use Prim.Native.Nat.{ℕ, _+_, _*_, _/_, _%_, _≤_, _<_}
+use native.Mathlib.Omega.{arith}
+use borrow.Author.Tests.{ltb-true, ltb-false, lt-ltb, le-ltb}
+use lib.Dec.{T, ltb, ltb→lt, eqb}
+use lib.ListN.{length}
+use lib.Ieee.{Float}
+use lib.Ieee.Fits.{and-l, and-r}
+use Rattle.meaning.specs.Refusals.{Row, firstOf}
+use Rattle.knots.specs.Rules.{knotRules}
+use Rattle.knots.proofs.Tests.{by-two}
+use Rattle.curve.specs.declared.Curve.{Curve}
+use Rattle.curve.specs.Record.{recordRules}
+use Rattle.curve.specs.Evaluate.{pointRules}
+use Rattle.curve.specs.Build.{handleRules, controlRules, builtBy}
+use Rattle.curve.proofs.Rows.{row-applies, row-passes}
+use Rattle.fit.specs.Fit.{fitRules, curveThrough, curveOf, buildRules}
+use Rattle.sheet_read.specs.declared.Sheet.{Sheet}
+use Rattle.sheet_read.specs.Number.{glyph}
+use Rattle.sheet_read.specs.Written.{digitsText, countText}
+use Rattle.sheet_read.proofs.Sections.{Limits}
+use Rattle.sheet_text.specs.Printed.{decimalText}
+use Rattle.sheet_text.specs.Curves.{lineRules}
+use Rattle.sheet_text.specs.Answer.{pointsOf, knotsOf, givenOf, rulesOf, sheetCurve}
+use Rattle.sheet_text.proofs.Front.{numbers-long}
+use Rattle.sheet_text.proofs.Putting.{one-digit, two-digits}
+
+-- below 100 it is decimal, with no needless zero
+pub decimal-count : (n : ℕ) → n < 100 → decimalText n ≡ countText n
+unfolding countText digitsText
+decimal-count n h =
+    by-two (ltb n 10)
+    (λ e.
+    let d : n ≡ n % 10 = omega (arith, ltb-true n 10 e) in
+    one-digit n (ltb-true n 10 e) ∙ ap (λ (k : ℕ). glyph k ∷ []) d ∙ (λ i. digitsText 10 (cond (sym e i) 1 (cond (ltb n 100) 2 (cond (ltb n 1000) 3 4))) n))
+    (λ e. two-digits n (ltb-false n 10 e) ∙ (λ i. digitsText 10 (cond (sym e i) 1 (cond (sym (lt-ltb n 100 h) i) 2 (cond (ltb n 1000) 3 4))) n))
+
+-- ---- refusals
+
+abbrev small : List Row → Bool
+small [] = true
+small (r ∷ rs) = ltb (r .number) 100 && small rs
+
+first-small : (rs : List Row) → T (small rs) → firstOf rs < 100
+unfolding firstOf
+first-small [] h = omega arith
+first-small (r ∷ rs) h =
+    by-two (r .applies) (λ e. rw (row-applies r rs e) (ltb→lt (r .number) 100 (and-l (ltb (r .number) 100) (small rs) h)))
+    (λ e. rw (row-passes r rs e) (first-small rs (and-r (ltb (r .number) 100) (small rs) h)))
+
+pub build-small : (fit : Bool) (coords : List Float) (given : Bool) (ks work : List Float) → firstOf (buildRules fit coords given ks work) < 100
+unfolding fitRules controlRules handleRules knotRules
+build-small true coords given ks work = first-small (buildRules true coords given ks work) tt
+build-small false coords given ks work = first-small (buildRules false coords given ks work) tt
+
+pub line-small : (c : Curve) (t : Float) → firstOf (lineRules c t) < 100
+unfolding recordRules pointRules knotRules
+line-small c t = first-small (lineRules c t) tt
+
+-- ---- counts
+
+abbrev Few : Curve → Type 0
+Few c = (c .points ≤ 68) × (c .«knot_count» ≤ 72)
+
+curve-few : (fit : Bool) (coords : List Float) (given : Bool) (ks : List Float) → length coords / 2 ≤ 66 → Few (curveOf fit coords given ks)
+unfolding curveThrough
+curve-few true coords given ks h = (omega arith, omega arith)
+curve-few false coords given ks h = (omega arith, omega arith)
+
+built-few : (rules : List Row) (c : Curve) → Few c → Few (builtBy rules c)
+built-few rules c h = by-two (eqb (firstOf rules) 0) (λ e. rw e h) (λ e. rw e (omega arith, omega arith))
+
+pub counts-few : (s : List ℕ) (x : Sheet) (work : List Float) → Limits x → Few (sheetCurve s x work)
+counts-few s x work l =
+    built-few (rulesOf s x work) (curveOf (x .fit) (pointsOf s x) (givenOf s x) (knotsOf s x))
+    (curve-few (x .fit) (pointsOf s x) (givenOf s x) (knotsOf s x) (omega (arith, numbers-long s (x .points .start) (2 * x .points .count), l .points .0)))

@@ -3,21 +3,9 @@
 //! the same parameter.
 
 use crate::fits::wave;
+use crate::ours::threshdune_closest;
 use crate::sides::Bench;
 use original::spline::{BSpline, Curve, P2, closest_param};
-
-unsafe extern "C" {
-    fn threshdune_closest(
-        coords: *const f64,
-        coords_len: usize,
-        knots: *const f64,
-        knots_len: usize,
-        px: f64,
-        py: f64,
-        out: *mut f64,
-        out_len: usize,
-    ) -> u64;
-}
 
 pub fn time(bench: &mut Bench) {
     let fit = BSpline::from_fit_points(&wave(64, 3)).expect("accepted");

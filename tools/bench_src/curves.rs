@@ -1,21 +1,9 @@
 //! A curve of control points: its point, and its derivatives up to the second. Ours goes in by the public door, which checks the
 //! curve anew each time; the Rust does not.
 
+use crate::ours::threshdune_evaluate;
 use crate::sides::Bench;
 use original::spline::{BSpline, Curve, P2};
-
-unsafe extern "C" {
-    fn threshdune_evaluate(
-        coords: *const f64,
-        coords_len: usize,
-        knots: *const f64,
-        knots_len: usize,
-        t: f64,
-        order: u64,
-        out: *mut f64,
-        out_len: usize,
-    ) -> u64;
-}
 
 /// A wavy curve over uniform knots, in the forms that the two sides take.
 struct Wave {

@@ -1,25 +1,10 @@
 //! A fit: control points and knots from fit points. Ours works in a lent buffer, which it leaves cleared for the next call; the Rust
 //! makes its matrix anew, cleared, each time.
 
+use crate::ours::threshdune_build_fit;
 use crate::sides::Bench;
 use original::spline::BSpline;
 use std::cell::RefCell;
-
-unsafe extern "C" {
-    fn threshdune_build_fit(
-        coords: *const f64,
-        coords_len: usize,
-        given: u64,
-        knots: *const f64,
-        knots_len: usize,
-        work: *mut f64,
-        work_len: usize,
-        control: *mut f64,
-        control_len: usize,
-        knots_out: *mut f64,
-        knots_out_len: usize,
-    ) -> u64;
-}
 
 /// n points of a wave; `which` gives each its own shape.
 pub fn wave(n: usize, which: usize) -> Vec<[f64; 2]> {

@@ -7,6 +7,10 @@
 mod closest;
 mod curves;
 mod fits;
+// the comparison's own declarations, of which a few are timed
+#[allow(dead_code)]
+#[path = "../compare_src/ours.rs"]
+mod ours;
 mod root;
 mod sides;
 

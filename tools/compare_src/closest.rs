@@ -3,7 +3,7 @@
 
 use crate::asked::{Form, Room, Wanted, door, points};
 use crate::fits::fit_points;
-use crate::layouts::{Layout, inside, not_finite, stepped, uniform};
+use crate::layouts::{Layout, inside, mirror, not_finite, stepped, uniform};
 use crate::ours;
 use crate::random::{Flavour, Random};
 use crate::records::Record;
@@ -346,14 +346,7 @@ fn mirrored(random: &mut Random, n: usize) -> Drawn {
         _ => 1.0,
     };
     let mut coords: Vec<f64> = (0..2 * n).map(|_| random.double(flavour) * scale).collect();
-    for k in 0..n / 2 {
-        let other = n - 1 - k;
-        coords[2 * other] = -coords[2 * k];
-        coords[2 * other + 1] = coords[2 * k + 1];
-    }
-    if n % 2 == 1 {
-        coords[n - 1] = 0.0;
-    }
+    mirror(&mut coords);
     let knots = match random.once_in(2) {
         true => uniform(n),
         false => symmetric_knots(random, n),

@@ -3,7 +3,7 @@
 
 use crate::asked::{Asked, Room, Wanted, points};
 use crate::judge::Fit;
-use crate::layouts::not_finite;
+use crate::layouts::{collinear, mirror, not_finite};
 use crate::ours;
 use crate::random::{Flavour, Random};
 use crate::table::{NOT_FINITE, Table, their_check_of_fit};
@@ -193,16 +193,6 @@ pub fn fit_points(random: &mut Random, n: usize) -> (Vec<f64>, &'static str) {
     }
 }
 
-fn collinear(random: &mut Random, n: usize) -> Vec<f64> {
-    let flavour = match random.below(2) {
-        0 => Flavour::Small,
-        _ => Flavour::Ordinary,
-    };
-    let [x, y, dx, dy] = [(); 4].map(|_| random.double(flavour));
-    let point = |k: usize| [x + k as f64 * dx, y + k as f64 * dy];
-    (0..n).flat_map(point).collect()
-}
-
 /// Steps of one length, in four directions.
 fn even(random: &mut Random, n: usize) -> Vec<f64> {
     let step = scaled(1.0, random.within(-20, 20));
@@ -232,14 +222,7 @@ fn mirrored(random: &mut Random, n: usize) -> Vec<f64> {
         _ => Flavour::Ordinary,
     };
     let mut coords: Vec<f64> = (0..2 * n).map(|_| random.double(flavour)).collect();
-    for k in 0..n / 2 {
-        let other = n - 1 - k;
-        coords[2 * other] = -coords[2 * k];
-        coords[2 * other + 1] = coords[2 * k + 1];
-    }
-    if n % 2 == 1 {
-        coords[n - 1] = 0.0;
-    }
+    mirror(&mut coords);
     coords
 }
 

@@ -204,7 +204,7 @@ fn zero(random: &mut Random) -> f64 {
     }
 }
 
-fn collinear(random: &mut Random, n: usize) -> Vec<f64> {
+pub fn collinear(random: &mut Random, n: usize) -> Vec<f64> {
     let flavour = match random.below(2) {
         0 => Flavour::Small,
         _ => Flavour::Ordinary,
@@ -212,6 +212,19 @@ fn collinear(random: &mut Random, n: usize) -> Vec<f64> {
     let [x, y, dx, dy] = [(); 4].map(|_| random.double(flavour));
     let point = |k: usize| [x + k as f64 * dx, y + k as f64 * dy];
     (0..n).flat_map(point).collect()
+}
+
+/// Makes the second half of the points the first in a mirror.
+pub fn mirror(coords: &mut [f64]) {
+    let n = coords.len() / 2;
+    for k in 0..n / 2 {
+        let other = n - 1 - k;
+        coords[2 * other] = -coords[2 * k];
+        coords[2 * other + 1] = coords[2 * k + 1];
+    }
+    if n % 2 == 1 {
+        coords[n - 1] = 0.0;
+    }
 }
 
 fn all_equal(random: &mut Random, n: usize) -> Vec<f64> {

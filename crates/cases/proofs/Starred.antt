@@ -6,7 +6,7 @@ use mathlib.Core.Bool.{true, false, _&&_}
 use mathlib.Core.List.{List, [], _∷_}
 use Prim.Native.Nat.{ℕ}
 use lib.ListN.{replicate, take}
-use lib.IntN.{pos, negsuc}
+use lib.IntN.{pos}
 use lib.Ieee.{Float, binary64, ofBits, ofInt, add, sub, mul, div, neg, lt, le, round, eq, ne, fin}
 use Rattle.meaning.specs.Root.{rootOf}
 use Rattle.meaning.specs.Scalar.{zero64, one64, plain}
@@ -15,7 +15,7 @@ use Rattle.meaning.specs.Refusals.{firstOf}
 use Rattle.meaning.specs.Number.{smaller}
 use Rattle.partials.specs.declared.Dv.{Dv}
 use Rattle.partials.specs.Dual.{dual, partials, zipDv, mapDv, cstDv, varDv, divDv, rootDv}
-use Rattle.knots.specs.Search.{seekFrom, listed}
+use Rattle.meaning.specs.Search.{seekFrom, listed}
 use Rattle.knots.specs.Rules.{count, knotRules}
 use Rattle.knots.specs.Uniform.{uniformAt, uniformOf}
 use Rattle.knots.specs.Span.{spanOf}
@@ -25,8 +25,8 @@ use Rattle.basis.specs.Basis.{valuesOf, orderTurn, functionOf, functionsOf, sca
 use Rattle.evaluate.specs.Point.{Shape, weighted, placed, insideOf, beyondOf, orderAt, ordersOf}
 use Rattle.solve.specs.Rows.{allBelow}
 use Rattle.solve.specs.Outcome.{solutionOf}
-use Rattle.curve.specs.Evaluate.{pointOrders}
-use Rattle.curve.specs.Samples.{samplesOf}
+use Rattle.point.specs.Evaluate.{pointOrders}
+use Rattle.measure.specs.Samples.{samplesOf}
 use Rattle.curve.specs.Record.{someWild}
 use Rattle.curve.specs.Build.{handleRules}
 use Rattle.fit.specs.Parameters.{parameterAt, knotAt, knotsBy}

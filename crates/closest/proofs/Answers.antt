@@ -10,7 +10,7 @@ use lib.ListN.{length}
 use lib.Ieee.{Float}
 use Rattle.meaning.specs.Refusals.{Row, row, firstOf}
 use Rattle.curve.specs.declared.Curve.{Curve}
-use Rattle.curve.proofs.Rows.{numbered, row-applies, row-passes, second-decides, first-decides}
+use Rattle.meaning.proofs.Rows.{numbered, row-applies, row-passes, second-decides, first-decides}
 use Rattle.closest.specs.Found.{numberOf, valuesOf, Answered}
 use Rattle.closest.specs.declared.Found.{Found}
 use Rattle.closest.specs.declared.Found.the-variants.{At, Refused}

@@ -8,10 +8,10 @@ use lib.Ieee.{Float}
 use Rattle.meaning.specs.Scalar.{plain}
 use Rattle.meaning.specs.Table.{at1}
 use Rattle.meaning.specs.Loops.{turns, run}
-use Rattle.knots.specs.Search.{listed}
+use Rattle.meaning.specs.Search.{listed}
 use Rattle.plane.specs.Vector.{Vector}
 use Rattle.evaluate.specs.Point.{Shape}
-use Rattle.curve.specs.Samples.{pairSamples, samplesOf}
+use Rattle.measure.specs.Samples.{pairSamples, samplesOf}
 use Rattle.closest.specs.Search.{through, to, sampled, unsampled, nearestSample}
 use Rattle.closest.specs.declared.Nearest.{Nearest}
 

@@ -12,10 +12,10 @@ use Rattle.meaning.specs.Scalar.{plain}
 use Rattle.meaning.specs.Table.{at1}
 use Rattle.meaning.specs.Loops.{run}
 use Rattle.meaning.proofs.Order.{le-refl, lt-le, lt-trans, lt-le-trans, lt-not-le, not-lt-le}
-use Rattle.knots.proofs.Tests.{by-two, and-left, and-right, no}
+use Rattle.meaning.proofs.Tests.{by-two, and-left, and-right, no}
 use Rattle.plane.specs.Vector.{Vector}
 use Rattle.evaluate.specs.Point.{Shape}
-use Rattle.curve.specs.Samples.{pairSamples, samplesOf}
+use Rattle.measure.specs.Samples.{pairSamples, samplesOf}
 use Rattle.closest.specs.Search.{through, to, distanceAt, sampled, unsampled, nearestSample}
 use Rattle.closest.specs.declared.Nearest.{Nearest}
 

@@ -20,8 +20,8 @@ use Rattle.basis.specs.Triangle.{columnTurn, columnOf, sidesTurn, triangleOf}
 use Rattle.basis.specs.Basis.{valuesOf, orderTurn, functionOf, functionsOf, scaledRow, scaleTurn, scaled, derivativesOf, basisOf}
 use Rattle.plane.specs.Vector.{Vector}
 use Rattle.evaluate.specs.Point.{Shape, weighted, placed, insideOf, orderAt, ordersOf}
-use Rattle.curve.specs.Evaluate.{pointOrders}
-use Rattle.curve.proofs.Rows.{row-applies, row-passes}
+use Rattle.point.specs.Evaluate.{pointOrders}
+use Rattle.meaning.proofs.Rows.{row-applies, row-passes}
 use Rattle.closest.specs.Search.{orderIn, still, from, to, slopeAt, roundOf, unfinished, nearestSample, newtonFrom, closestOf, searchRules}
 use Rattle.closest.specs.declared.Progress.{Progress}
 

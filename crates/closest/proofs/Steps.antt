@@ -15,7 +15,7 @@ use Rattle.knots.proofs.Spans.{accepted-span}
 use Rattle.plane.specs.Vector.{Vector, subV, dotV}
 use Rattle.evaluate.specs.Point.{Shape, ordersOf}
 use Rattle.evaluate.proofs.Places.{same-span}
-use Rattle.curve.specs.Evaluate.{pointOrders}
+use Rattle.point.specs.Evaluate.{pointOrders}
 use Rattle.closest.specs.Distance.{distanceOf}
 use Rattle.closest.specs.Search.{orderIn, still, from, to, distanceAt, sampled, slopeAt, roundOf}
 use Rattle.closest.specs.declared.Nearest.{Nearest}

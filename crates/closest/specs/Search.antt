@@ -14,8 +14,8 @@ use Rattle.meaning.specs.Number.{sizeOf, clampOf}
 use Rattle.meaning.specs.Refusals.{Row, row}
 use Rattle.plane.specs.Vector.{Vector, subV, dotV}
 use Rattle.evaluate.specs.Point.{Shape}
-use Rattle.curve.specs.Evaluate.{pointOrders}
-use Rattle.curve.specs.Samples.{samplesOf}
+use Rattle.point.specs.Evaluate.{pointOrders}
+use Rattle.measure.specs.Samples.{samplesOf}
 use Rattle.closest.specs.Distance.{distanceOf}
 use Rattle.closest.specs.declared.Nearest.{Nearest}
 use Rattle.closest.specs.declared.Slope.{Slope}

@@ -1,16 +1,15 @@
 // The closest parameter: the nearest of many samples, made better by Newton's rounds.
 ghost use mathlib.Core.Path.{_≡_};
-ghost use mathlib.Core.Bool.{true, _&&_};
+ghost use mathlib.Core.Bool.{true};
 ghost use mathlib.Core.List.{_++_};
 ghost use Prim.Native.Nat.{_+_, _<_};
 ghost use lib.ListN.{take};
-ghost use lib.Ieee.Scale.{finite};
-ghost use Rattle.knots.specs.Search.{listed};
+ghost use Rattle.meaning.specs.Search.{listed};
 ghost use Rattle.knots.proofs.Accepted.{Accepted};
 ghost use Rattle.plane.specs.View.{view};
 ghost use Rattle.curve.specs.Record.{shapeOf, recordRules};
 ghost use Rattle.curve.specs.Build.{sliceShape, sliceRules};
-ghost use Rattle.curve.specs.Samples.{sampleAt, risingSamples};
+ghost use Rattle.measure.specs.Samples.{sampleAt, risingSamples};
 ghost use Rattle.closest.specs.Distance.{distanceOf};
 ghost use Rattle.closest.specs.Search.{through, sampled, nearestSample, slopeAt, roundOf, closestOf, newtonFrom, searchRules};
 ghost use Rattle.closest.specs.Found.{Answered};
@@ -41,13 +40,6 @@ struct Nearest {
     fine: bool,
 }
 
-// Whether b is fine and d finite.
-fn still_fine(b: bool, d: f64) -> bool
-    ensures { λ r. ⌜ r ≡ (b && finite d) ⌝ }
-{
-    if b { number::is_finite(d) } else { false }
-}
-
 // The nearest, with the sample at t. Only a smaller distance takes its place: of equal ones the first stays.
 fn sample<'a>(
     u: &'a [f64; 70],
@@ -64,7 +56,7 @@ fn sample<'a>(
     let at = evaluate::orders(u, n, xs, ys, t, 0);
     let c = P2 { x: at[0], y: at[1] };
     let d = distance(c, p);
-    let fine = still_fine(b.fine, d);
+    let fine = number::both(b.fine, number::is_finite(d));
     if d < b.d {
         return Nearest { t, d, fine };
     }

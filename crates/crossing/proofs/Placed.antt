@@ -11,14 +11,14 @@ use lib.ListN.{length}
 use lib.Seq.{paste}
 use lib.Ieee.{Float}
 use Rattle.meaning.specs.Refusals.{Row, row, firstOf}
-use Rattle.knots.proofs.Tests.{by-two}
+use Rattle.meaning.proofs.Tests.{by-two}
 use Rattle.plane.specs.Vector.{Vector}
 use Rattle.evaluate.specs.Point.{Shape}
 use Rattle.curve.specs.declared.Curve.{Curve}
 use Rattle.curve.specs.Answer.{Answer}
 use Rattle.curve.specs.Record.{recordRules}
 use Rattle.curve.specs.Build.{handleRules, sliceRules}
-use Rattle.curve.proofs.Rows.{row-applies, row-passes}
+use Rattle.meaning.proofs.Rows.{row-applies, row-passes}
 use Rattle.knots.specs.Rules.{knotRules}
 use Rattle.closest.specs.Search.{searchRules}
 use Rattle.closest.specs.Found.{Answered}

@@ -11,7 +11,7 @@ use Rattle.meaning.specs.Scalar.{zero64}
 use Rattle.meaning.specs.Loops.{run}
 use Rattle.meaning.specs.Table.{at2}
 use Rattle.buffer.specs.Pasted.{pasted}
-use Rattle.knots.specs.Search.{listed}
+use Rattle.meaning.specs.Search.{listed}
 use Rattle.partials.specs.declared.Dv.{Dv}
 use Rattle.partials.specs.Dual.{partials, dual}
 use Rattle.plane.specs.Vector.{Vector}

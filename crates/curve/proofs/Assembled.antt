@@ -17,7 +17,7 @@ use Rattle.knots.proofs.Refused.{row-passed, handles-passed}
 use Rattle.curve.specs.declared.Curve.{Curve}
 use Rattle.curve.specs.Record.{someWild, emptyCurve}
 use Rattle.curve.specs.Build.{storedKnots, handleRules, sliceRules, storedRules, controlRules, builtBy}
-use Rattle.curve.proofs.Rows.{numbered, row-applies, row-passes, second-decides, first-decides, both-pass}
+use Rattle.meaning.proofs.Rows.{numbered, row-applies, row-passes, second-decides, first-decides, both-pass}
 use Rattle.curve.proofs.Trusted.{numbered-knots}
 use Rattle.curve.proofs.Doors.{put-all}
 

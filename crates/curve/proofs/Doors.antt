@@ -14,9 +14,8 @@ use Rattle.buffer.specs.Pasted.{pasted}
 use Rattle.meaning.specs.Refusals.{Row, row, firstOf}
 use Rattle.curve.specs.declared.Curve.{Curve}
 use Rattle.curve.specs.Answer.{deliveryRules, Answer}
-use Rattle.curve.specs.Samples.{AnswerCounted}
 use Rattle.curve.specs.Build.{intoRules, AnswerBuild}
-use Rattle.curve.proofs.Rows.{numbered, row-applies, row-passes, second-decides, first-decides}
+use Rattle.meaning.proofs.Rows.{numbered, row-applies, row-passes, second-decides, first-decides}
 
 module _ {numbers : List Float} {k : ℕ} {out : List Float} where
   -- a row applies: its number is answered, and nothing is written
@@ -57,25 +56,10 @@ delivered-as {l} {l′} {out} {k} {m} {out′} e a = subst (λ (x : List Float).
 pub not-told : {a b t : Bool} → a ≡ b → not a ≡ t → not b ≡ t
 not-told e h = ap not (sym e) ∙ h
 
--- the same with a count beside the slice
-module _ {numbers : List Float} {out : List Float} {n : ℕ} where
-  pub refused-counted : (rules rs : List Row) {m : ℕ} → m ≡ firstOf rules → (m ≡ 0 → ⊥) → AnswerCounted (rules ++ rs) numbers out n m out n
-  refused-counted rules rs {m} e h =
-      let f : firstOf (rules ++ rs) ≡ m = first-decides rules rs (λ z. h (e ∙ z)) ∙ sym e in
-      record { answer = refused rules rs e h; counted = rw (f, ne-eqb m 0 h) }
-
-  pub after-counted : (rules : List Row) {rs : List Row} {m : ℕ} {out′ : List Float} {n′ : ℕ} → T (numbered rules) → firstOf rules ≡ 0 → AnswerCounted rs numbers out n m out′ n′
-      → AnswerCounted (rules ++ rs) numbers out n m out′ n′
-  after-counted rules {rs} t z a = record { answer = after rules t z (a .answer); counted = rw (second-decides rules rs t z) (a .counted) }
-
 -- an answer of one curve is that of an equal one
 pub moved : (rules : Curve → List Row) (numbers : Curve → List Float) {c d : Curve} {k : ℕ} {out : List Float} {m : ℕ} {out′ : List Float} → c ≡ d
     → Answer (rules c) (numbers c) k out m out′ → Answer (rules d) (numbers d) k out m out′
 moved rules numbers {c} {d} {k} {out} {m} {out′} e a = subst (λ (x : Curve). Answer (rules x) (numbers x) k out m out′) e a
-
-pub moved-counted : (rules : Curve → List Row) (numbers : Curve → List Float) {c d : Curve} {out : List Float} {n m : ℕ} {out′ : List Float} {n′ : ℕ} → c ≡ d
-    → AnswerCounted (rules c) (numbers c) out n m out′ n′ → AnswerCounted (rules d) (numbers d) out n m out′ n′
-moved-counted rules numbers {c} {d} {out} {n} {m} {out′} {n′} e a = subst (λ (x : Curve). AnswerCounted (rules x) (numbers x) out n m out′ n′) e a
 
 -- a build in two slices
 module _ {coords us : List Float} {k : ℕ} {control out : List Float} where

@@ -1,8 +1,7 @@
--- Rows of refusals joined, what a door answers, and what an accepted curve is.
-pub mod Rows
+-- Numbers that are not finite, what a door answers, and what an accepted curve is.
+pub mod Wild
 pub mod Doors
 pub mod Trusted
 pub mod Assembled
 pub mod Rechecked
-pub mod Sampled
 pub mod Determined

@@ -1,12 +1,11 @@
 -- A curve built from control points passes the rules of its own record: what the build lets through, every door that checks it again does, too.
 -- Assumes nothing.
 use mathlib.Core.Path.{_≡_, refl, sym, ap, _∙_, subst}
-use mathlib.Core.Bool.{Bool, true, false, not}
+use mathlib.Core.Bool.{Bool, true, false}
 use mathlib.Core.List.{List}
-use Prim.Native.Nat.{ℕ, zero, suc, _+_, _*_, _/_, _≤_, _<_, zero-le}
+use Prim.Native.Nat.{ℕ, zero, suc, _+_, _*_, _/_, _≤_, _<_}
 use native.Mathlib.Nat.{sub-zero, zero-add}
 use native.Mathlib.Omega.{arith}
-use borrow.Author.Tests.{not-false}
 use lib.ListN.{length, set, take, replicate, length-take, length-replicate}
 use lib.Ieee.{Float, nan}
 use lib.Ieee.Scale.{finite}
@@ -16,23 +15,14 @@ use Rattle.meaning.specs.Table.{at1}
 use Rattle.meaning.specs.Refusals.{firstOf}
 use Rattle.knots.specs.Rules.{knotRules}
 use Rattle.knots.proofs.Accepted.{accepted}
-use Rattle.knots.proofs.Searching.{none-found, found-none}
-use Rattle.knots.proofs.Filling.{Filled, empty, filled}
+use Rattle.meaning.proofs.Filling.{Filled, empty, filled}
 use Rattle.knots.proofs.Uniforms.{uniform-passes}
 use Rattle.curve.specs.Record.{someWild, countedKnots, recordRules}
 use Rattle.curve.specs.Build.{everyOther, storedKnots, controlCurve, sliceRules, controlRules}
-use Rattle.curve.proofs.Rows.{both-pass}
+use Rattle.curve.proofs.Wild.{each-finite, none-wild}
+use Rattle.meaning.proofs.Rows.{both-pass}
 use Rattle.curve.proofs.Trusted.{counted-all, all-tame}
 use Rattle.curve.proofs.Assembled.{room-of, numbered-handles, handles-passed-knots, handles-tame, stored-front}
-
--- ---- numbers
-
--- none of the first k numbers is wild
-pub each-finite : (l : List Float) (k : ℕ) → someWild l k ≡ false → (i : ℕ) → i < k → finite (at1 plain l i) ≡ true
-each-finite l k h i g = not-false _ (none-found (λ i. not (finite (at1 plain l i))) 0 k h i zero-le g)
-
-pub none-wild : (l : List Float) (k : ℕ) → ((i : ℕ) → i < k → finite (at1 plain l i) ≡ true) → someWild l k ≡ false
-none-wild l k h = found-none (λ i. not (finite (at1 plain l i))) 0 k (λ i g l. ap not (h i l))
 
 -- a list written from the front
 fills : (f : ℕ → Float) (d n : ℕ) (l : List Float) → length l ≡ d → n ≤ d → Filled f nan d n (turns 0 n (λ i s. set s i (f i)) l)

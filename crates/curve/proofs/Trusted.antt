@@ -12,10 +12,10 @@ use lib.Ieee.{Float}
 use Rattle.meaning.specs.Refusals.{row, firstOf}
 use Rattle.knots.specs.Rules.{knotRules}
 use Rattle.knots.proofs.Accepted.{Accepted, accepted}
-use Rattle.knots.proofs.Tests.{by-two}
+use Rattle.meaning.proofs.Tests.{by-two}
 use Rattle.curve.specs.declared.Curve.{Curve}
 use Rattle.curve.specs.Record.{someWild, countedKnots, recordRules}
-use Rattle.curve.proofs.Rows.{numbered, second-decides, first-decides}
+use Rattle.meaning.proofs.Rows.{numbered, second-decides, first-decides}
 
 pub numbered-knots : (n : ℕ) (fit given : Bool) (ks : List Float) → T (numbered (knotRules n fit given ks))
 unfolding knotRules

@@ -1,7 +1,4 @@
--- The curve record, and what each door answers.
+-- The curve record, what a door answers, and the build from control points.
 pub mod Record
 pub mod Answer
 pub mod Build
-pub mod Evaluate
-pub mod Length
-pub mod Samples

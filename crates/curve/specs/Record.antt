@@ -9,7 +9,7 @@ use lib.Ieee.Scale.{finite}
 use Rattle.meaning.specs.Scalar.{plain, zero64}
 use Rattle.meaning.specs.Table.{at1}
 use Rattle.meaning.specs.Refusals.{Row, row}
-use Rattle.knots.specs.Search.{some}
+use Rattle.meaning.specs.Search.{some}
 use Rattle.knots.specs.Rules.{knotRules}
 use Rattle.evaluate.specs.Point.{Shape}
 use Rattle.curve.specs.declared.Curve.{Curve}

@@ -3,7 +3,7 @@
 use mathlib.Core.Path.{_≡_, refl, sym, _∙_}
 use mathlib.Core.Bool.{true, false, not, _||_}
 use mathlib.Core.List.{List, _++_}
-use Prim.Native.Nat.{ℕ, zero, suc, _+_, _≤_, zero-le}
+use Prim.Native.Nat.{ℕ, zero, suc, _≤_, zero-le}
 use native.Mathlib.Nat.{suc-ne-zero}
 use native.Mathlib.Omega.{arith}
 use borrow.Author.Tests.{not-false, ltb-false, le-ltb, eq-eqb}
@@ -16,17 +16,17 @@ use Rattle.meaning.specs.Scalar.{plain}
 use Rattle.meaning.specs.Table.{at1}
 use Rattle.meaning.specs.Refusals.{Row, firstOf}
 use Rattle.knots.specs.Rules.{knotRules}
-use Rattle.knots.proofs.Tests.{or-left, or-right}
+use Rattle.meaning.proofs.Tests.{or-left, or-right}
 use Rattle.knots.proofs.Refused.{row-passed}
-use Rattle.knots.proofs.Searching.{none-found}
+use Rattle.meaning.proofs.Searching.{none-found}
 use Rattle.evaluate.specs.Point.{Shape}
 use Rattle.hull.specs.Asked.{AllDoubles, Coordinates, InDomain}
 use Rattle.hull.proofs.Theorems.{hull-answered, point-passes, written-is}
 use Rattle.curve.specs.declared.Curve.{Curve}
 use Rattle.curve.specs.Record.{shapeOf, someWild, countedKnots, recordRules}
 use Rattle.curve.specs.Answer.{Answer}
-use Rattle.curve.specs.Evaluate.{pointOrders, numbersFor, pointRules}
-use Rattle.curve.proofs.Rows.{numbered, second-decides, first-decides}
+use Rattle.point.specs.Evaluate.{pointOrders, numbersFor, pointRules}
+use Rattle.meaning.proofs.Rows.{numbered, second-decides, first-decides}
 use Rattle.curve.proofs.Trusted.{numbered-knots, numbered-record, trusted}
 use Rattle.demand3.specs.Demand.{Bounded, PointInHull, Published}
 

@@ -7,7 +7,7 @@ ghost use lib.Ieee.{binary64, fits};
 ghost use Rattle.hull.specs.Asked.{AllDoubles};
 ghost use Rattle.curve.specs.Record.{shapeOf, recordRules};
 ghost use Rattle.curve.specs.Answer.{Answer};
-ghost use Rattle.curve.specs.Evaluate.{pointOrders, numbersFor, pointRules};
+ghost use Rattle.point.specs.Evaluate.{pointOrders, numbersFor, pointRules};
 ghost use Rattle.demand3.specs.Demand.{Bounded, PointInHull, Published};
 use curve::Curve;
 use knots::Refusal;
@@ -40,5 +40,5 @@ pub fn evaluate(c: Curve, t: f64, order: usize, out: &mut [f64]) -> Refusal
     doubles(&c.xs);
     doubles(&c.ys);
     double(t);
-    curve::evaluate(c, t, order, out)
+    point::evaluate(c, t, order, out)
 }

@@ -6,7 +6,7 @@ ghost use lib.ListN.{getD};
 ghost use Rattle.meaning.specs.Scalar.{plain};
 ghost use Rattle.knots.specs.Halving.{halvedOf};
 ghost use Rattle.plane.specs.View.{view};
-ghost use Rattle.evaluate.specs.Point.{weighted, combined, placed, insideOf, beyondOf, ordersOf};
+ghost use Rattle.evaluate.specs.Point.{weighted, placed, insideOf, beyondOf, ordersOf};
 ghost use Rattle.evaluate.specs.Straight.{straightOf};
 use plane::P2;
 

@@ -14,9 +14,9 @@ ghost use Rattle.basis.specs.Basis.{derivativesOf};
 ghost use Rattle.curve.specs.Record.{shapeOf, recordRules};
 ghost use Rattle.curve.specs.Answer.{Answer};
 ghost use Rattle.curve.specs.Build.{storedKnots, knotsBuilt, sliceShape, sliceRules, intoRules, AnswerBuild};
-ghost use Rattle.curve.specs.Evaluate.{pointOrders, numbersFor, pointRules, tangentNumbers, tangentRules};
-ghost use Rattle.curve.specs.Length.{lengthOf, lengthRules, domainOf, domainRules};
-ghost use Rattle.curve.specs.Samples.{samplesOf, sampleRules, AnswerCounted};
+ghost use Rattle.point.specs.Evaluate.{pointOrders, numbersFor, pointRules, tangentNumbers, tangentRules};
+ghost use Rattle.measure.specs.Length.{lengthOf, lengthRules, domainOf, domainRules};
+ghost use Rattle.measure.specs.Samples.{samplesOf, sampleRules, AnswerCounted};
 ghost use Rattle.fit.specs.Fit.{curveThrough, fitRules, workAfter};
 ghost use Rattle.fit.specs.Slices.{roomShort, AnswerFit};
 ghost use Rattle.closest.specs.Search.{closestOf, searchRules};
@@ -426,7 +426,7 @@ pub extern "C" fn threshdune_evaluate(
 ) -> u64
     ensures { λ r. ⌜ Answer (sliceRules (now (coords .entry)) true (now (knots .entry)) ++ pointRules (sliceShape (now (coords .entry)) (now (knots .entry))) t order (now (out .entry))) (pointOrders (sliceShape (now (coords .entry)) (now (knots .entry))) t order) (numbersFor order) (now (out .entry)) r (now (out .exit)) ⌝ }
 {
-    let r = curve::evaluate_slices(coords, knots, t, order as usize, out);
+    let r = point::evaluate_slices(coords, knots, t, order as usize, out);
     r.number
 }
 
@@ -440,7 +440,7 @@ pub extern "C" fn threshdune_point_tangent(
 ) -> u64
     ensures { λ r. ⌜ Answer (sliceRules (now (coords .entry)) true (now (knots .entry)) ++ tangentRules (sliceShape (now (coords .entry)) (now (knots .entry))) t (now (out .entry))) (tangentNumbers (sliceShape (now (coords .entry)) (now (knots .entry))) t) 4 (now (out .entry)) r (now (out .exit)) ⌝ }
 {
-    let r = curve::point_tangent_slices(coords, knots, t, out);
+    let r = point::point_tangent_slices(coords, knots, t, out);
     r.number
 }
 
@@ -449,7 +449,7 @@ pub extern "C" fn threshdune_point_tangent(
 pub extern "C" fn threshdune_length(coords: &[f64], knots: &[f64], out: &mut [f64]) -> u64
     ensures { λ r. ⌜ Answer (sliceRules (now (coords .entry)) true (now (knots .entry)) ++ lengthRules (sliceShape (now (coords .entry)) (now (knots .entry))) (now (out .entry))) (lengthOf plain (sliceShape (now (coords .entry)) (now (knots .entry))) ∷ []) 1 (now (out .entry)) r (now (out .exit)) ⌝ }
 {
-    let r = curve::length_slices(coords, knots, out);
+    let r = measure::length_slices(coords, knots, out);
     r.number
 }
 
@@ -458,7 +458,7 @@ pub extern "C" fn threshdune_length(coords: &[f64], knots: &[f64], out: &mut [f6
 pub extern "C" fn threshdune_domain(coords: &[f64], knots: &[f64], out: &mut [f64]) -> u64
     ensures { λ r. ⌜ Answer (sliceRules (now (coords .entry)) true (now (knots .entry)) ++ domainRules (now (out .entry))) (domainOf (sliceShape (now (coords .entry)) (now (knots .entry)))) 2 (now (out .entry)) r (now (out .exit)) ⌝ }
 {
-    let r = curve::domain_slices(coords, knots, out);
+    let r = measure::domain_slices(coords, knots, out);
     r.number
 }
 
@@ -473,7 +473,7 @@ pub extern "C" fn threshdune_samples(
 ) -> u64
     ensures { λ r. ⌜ AnswerCounted (sliceRules (now (coords .entry)) true (now (knots .entry)) ++ sampleRules (sliceShape (now (coords .entry)) (now (knots .entry))) «per_span» (now (out .entry))) (samplesOf (sliceShape (now (coords .entry)) (now (knots .entry))) «per_span») (now (out .entry)) (now (count .entry)) r (now (out .exit)) (now (count .exit)) ⌝ }
 {
-    let r = curve::samples_slices(coords, knots, per_span as usize, out, count);
+    let r = measure::samples_slices(coords, knots, per_span as usize, out, count);
     r.number
 }
 
@@ -509,7 +509,7 @@ pub extern "C" fn threshdune_record_evaluate(
     ensures { λ r. ⌜ Answer (recordRules (readCurve points «knot_count» (now (xs .entry)) (now (ys .entry)) (now (knots .entry))) ++ pointRules (shapeOf (readCurve points «knot_count» (now (xs .entry)) (now (ys .entry)) (now (knots .entry)))) t order (now (out .entry))) (pointOrders (shapeOf (readCurve points «knot_count» (now (xs .entry)) (now (ys .entry)) (now (knots .entry)))) t order) (numbersFor order) (now (out .entry)) r (now (out .exit)) ⌝ }
 {
     let c = crossing::read_curve(points, knot_count, xs, ys, knots);
-    let r = curve::evaluate(c, t, order as usize, out);
+    let r = point::evaluate(c, t, order as usize, out);
     r.number
 }
 
@@ -527,7 +527,7 @@ pub extern "C" fn threshdune_record_point_tangent(
     ensures { λ r. ⌜ Answer (recordRules (readCurve points «knot_count» (now (xs .entry)) (now (ys .entry)) (now (knots .entry))) ++ tangentRules (shapeOf (readCurve points «knot_count» (now (xs .entry)) (now (ys .entry)) (now (knots .entry)))) t (now (out .entry))) (tangentNumbers (shapeOf (readCurve points «knot_count» (now (xs .entry)) (now (ys .entry)) (now (knots .entry)))) t) 4 (now (out .entry)) r (now (out .exit)) ⌝ }
 {
     let c = crossing::read_curve(points, knot_count, xs, ys, knots);
-    let r = curve::point_tangent(c, t, out);
+    let r = point::point_tangent(c, t, out);
     r.number
 }
 
@@ -544,7 +544,7 @@ pub extern "C" fn threshdune_record_length(
     ensures { λ r. ⌜ Answer (recordRules (readCurve points «knot_count» (now (xs .entry)) (now (ys .entry)) (now (knots .entry))) ++ lengthRules (shapeOf (readCurve points «knot_count» (now (xs .entry)) (now (ys .entry)) (now (knots .entry)))) (now (out .entry))) (lengthOf plain (shapeOf (readCurve points «knot_count» (now (xs .entry)) (now (ys .entry)) (now (knots .entry)))) ∷ []) 1 (now (out .entry)) r (now (out .exit)) ⌝ }
 {
     let c = crossing::read_curve(points, knot_count, xs, ys, knots);
-    let r = curve::length(c, out);
+    let r = measure::length(c, out);
     r.number
 }
 
@@ -561,7 +561,7 @@ pub extern "C" fn threshdune_record_domain(
     ensures { λ r. ⌜ Answer (recordRules (readCurve points «knot_count» (now (xs .entry)) (now (ys .entry)) (now (knots .entry))) ++ domainRules (now (out .entry))) (domainOf (shapeOf (readCurve points «knot_count» (now (xs .entry)) (now (ys .entry)) (now (knots .entry))))) 2 (now (out .entry)) r (now (out .exit)) ⌝ }
 {
     let c = crossing::read_curve(points, knot_count, xs, ys, knots);
-    let r = curve::domain(c, out);
+    let r = measure::domain(c, out);
     r.number
 }
 
@@ -580,7 +580,7 @@ pub extern "C" fn threshdune_record_samples(
     ensures { λ r. ⌜ AnswerCounted (recordRules (readCurve points «knot_count» (now (xs .entry)) (now (ys .entry)) (now (knots .entry))) ++ sampleRules (shapeOf (readCurve points «knot_count» (now (xs .entry)) (now (ys .entry)) (now (knots .entry)))) «per_span» (now (out .entry))) (samplesOf (shapeOf (readCurve points «knot_count» (now (xs .entry)) (now (ys .entry)) (now (knots .entry)))) «per_span») (now (out .entry)) (now (count .entry)) r (now (out .exit)) (now (count .exit)) ⌝ }
 {
     let c = crossing::read_curve(points, knot_count, xs, ys, knots);
-    let r = curve::samples(c, per_span as usize, out, count);
+    let r = measure::samples(c, per_span as usize, out, count);
     r.number
 }
 

@@ -22,7 +22,7 @@ fn main() {
     let knots = [-far, -far, -far, -far, far, far, far, far];
     let built = curve::build_control(&points, true, &knots);
     let mut out = [1.0; 2];
-    let r = curve::evaluate(built.curve, 0.0, 0, &mut out);
+    let r = point::evaluate(built.curve, 0.0, 0, &mut out);
     if r.number == 0 {
         print_point(out[0], out[1]);
     } else {

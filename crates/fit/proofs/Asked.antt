@@ -11,7 +11,7 @@ use Rattle.meaning.specs.Refusals.{Row, row, firstOf}
 use Rattle.knots.specs.Rules.{knotRules}
 use Rattle.knots.proofs.Refused.{row-passed}
 use Rattle.curve.specs.Build.{handleRules}
-use Rattle.curve.proofs.Rows.{row-applies, row-passes, second-decides, first-decides}
+use Rattle.meaning.proofs.Rows.{row-applies, row-passes, second-decides, first-decides}
 use Rattle.curve.proofs.Assembled.{numbered-handles, handles-passed-knots}
 use Rattle.solve.specs.Outcome.{workOf}
 use Rattle.fit.specs.Fit.{pointsIn, controlsFor, workFor, allFine, fitRules, workAfter}

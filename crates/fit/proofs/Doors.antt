@@ -6,7 +6,7 @@ use mathlib.Core.List.{List, [], _∷_}
 use mathlib.Core.Logic.{inl, inr}
 use Prim.Native.Nat.{ℕ, _+_, _≤_, _<_}
 use native.Mathlib.Omega.{arith}
-use borrow.Author.Tests.{not-false}
+use borrow.Author.Tests.{not-true, not-false}
 use lib.Ieee.{Float}
 use lib.Ieee.Scale.{finite}
 use Rattle.meaning.specs.Scalar.{plain}
@@ -15,21 +15,21 @@ use Rattle.meaning.specs.Refusals.{row, firstOf}
 use Rattle.knots.specs.Rules.{knotRules}
 use Rattle.knots.specs.Span.{spanOf}
 use Rattle.knots.proofs.Refused.{row-passed}
-use Rattle.knots.proofs.Tests.{no, and-left, and-right}
+use Rattle.meaning.proofs.Tests.{no, and-left, and-right}
 use Rattle.solve.specs.Substitution.{solvedOk}
 use Rattle.solve.proofs.Outcomes.{solution-fine, x-at, y-at}
-use Rattle.solve.proofs.Fine.{solved-fine}
+use Rattle.solve_laws.proofs.Fine.{solved-fine}
 use Rattle.curve.specs.Record.{someWild, recordRules}
 use Rattle.curve.specs.declared.Built.{Built}
 use Rattle.curve.specs.Build.{handleRules}
-use Rattle.curve.proofs.Rows.{both-pass}
+use Rattle.meaning.proofs.Rows.{both-pass}
 use Rattle.curve.proofs.Trusted.{counted-all, all-tame}
 use Rattle.curve.proofs.Assembled.{numbered-handles, built-made}
-use Rattle.curve.proofs.Rechecked.{none-wild, control-rechecked}
+use Rattle.curve.proofs.Wild.{none-wild}
+use Rattle.curve.proofs.Rechecked.{control-rechecked}
 use Rattle.fit.specs.Parameters.{fitParameter}
 use Rattle.fit.specs.System.{rowsOk}
-use Rattle.fit.specs.Fit.{pointsIn, controlsFor, knotsThrough, rowThrough, rowsThrough, solutionThrough, curveThrough}
-use Rattle.fit.specs.Fit.{allFine, fitRules, workShort, buildRules, curveOf, AnswerCurve}
+use Rattle.fit.specs.Fit.{pointsIn, controlsFor, knotsThrough, rowThrough, rowsThrough, solutionThrough, curveThrough, allFine, fitRules, workShort, buildRules, curveOf, AnswerCurve}
 use Rattle.fit.proofs.Asked.{fit-room}
 use Rattle.fit.proofs.Rows.{fit-rows-shaped}
 use Rattle.fit.proofs.Rising.{Rising, fit-rise-or-repeat}
@@ -45,10 +45,6 @@ module _ (q : List Float) (two : 2 ≤ pointsIn q) (room : pointsIn q ≤ 64) (f
   tame : someWild (knotsThrough q) 70 ≡ false
   unfolding allFine
   tame = not-true _ (and-left (not (someWild (knotsThrough q) 70)) _ fine)
-    where
-      not-true : (b : Bool) → not b ≡ true → b ≡ false
-      not-true true h = no h
-      not-true false h = refl
 
   solvable : solvedOk plain (n + 2) (rowsThrough q) ≡ true
   unfolding allFine solutionThrough

@@ -14,8 +14,7 @@ use Rattle.meaning.specs.Table.{at1, at2, put2}
 use Rattle.basis.specs.Columns.{below}
 use Rattle.basis.specs.Triangle.{Column, Sides, zeros, columnTurn, columnOf, sidesTurn, noSides, triangleOf}
 use Rattle.basis.specs.Derivatives.{Coefs, firstCoef, midTurn, midCoefs, lastCoef, cleared, orderOf}
-use Rattle.basis.specs.Basis.{Orders, Scaling, noOrders, valuesOf, orderTurn, functionOf, functionsOf}
-use Rattle.basis.specs.Basis.{scaledRow, scaleTurn, scaled, derivativesOf, basisOf}
+use Rattle.basis.specs.Basis.{Orders, Scaling, noOrders, valuesOf, orderTurn, functionOf, functionsOf, scaledRow, scaleTurn, scaled, derivativesOf, basisOf}
 use Rattle.fit.specs.System.{spread, rowAt}
 
 abbrev Double : Float → Type 0

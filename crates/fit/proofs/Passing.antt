@@ -15,11 +15,11 @@ use Rattle.meaning.specs.Refusals.{firstOf}
 use Rattle.meaning.proofs.Order as Order
 use Rattle.knots.specs.Rules.{knot, unfit, someUnfit, unlike, knotRules}
 use Rattle.knots.specs.Repeat.{repeats}
-use Rattle.knots.proofs.Tests.{by-two, no}
-use Rattle.knots.proofs.Searching.{found-none}
+use Rattle.meaning.proofs.Tests.{by-two, no}
+use Rattle.meaning.proofs.Searching.{found-none}
 use Rattle.knots.proofs.Sorted.{NotFalling, ordered}
 use Rattle.knots.proofs.Accepted.{accepts}
-use Rattle.knots.proofs.Filling.{length-listed}
+use Rattle.meaning.proofs.Filling.{length-listed}
 use Rattle.curve.specs.Record.{someWild}
 use Rattle.fit.specs.Parameters.{stepAt, knotAt, knotsBy, fitParameter, fitKnots}
 use Rattle.fit.proofs.Rising.{Rising, step-plus, knot-front, knot-back, knot-parameter, knots-fine, fit-knots-sorted}

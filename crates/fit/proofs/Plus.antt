@@ -16,9 +16,9 @@ use lib.Ieee.Scale.{finite}
 use Rattle.meaning.specs.Scalar.{zero64, one64}
 use Rattle.meaning.specs.Root.{inUnits, rootSquared, fourRoots, rootOf}
 use Rattle.meaning.proofs.Order as Order
-use Rattle.knots.proofs.Tests.{no, by-two, and-left}
+use Rattle.meaning.proofs.Tests.{no, by-two, and-left}
 use Rattle.root.proofs.Doubles.{same-value, own-value}
-use Rattle.solve.proofs.Zeros.{own-round, over-fin, one-over}
+use Rattle.solve_laws.proofs.Zeros.{own-round, over-fin, one-over}
 
 abbrev B : Format
 B = binary64

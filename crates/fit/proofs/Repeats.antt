@@ -11,7 +11,7 @@ use Rattle.meaning.specs.Scalar.{Ops, plain}
 use Rattle.meaning.specs.Table.{at1, at2}
 use Rattle.plane.specs.Vector.{Vector}
 use Rattle.solve.specs.Substitution.{solvedOk}
-use Rattle.solve.proofs.Twins.{twins-refused}
+use Rattle.solve_laws.proofs.Twins.{twins-refused}
 use Rattle.fit.specs.Parameters.{pointAt}
 use Rattle.fit.specs.System.{withSides, rowAt, rowOf, fitRow, fitRows}
 use Rattle.fit.proofs.Rows.{listed-at, fit-row-at, fit-rows-shaped}

@@ -15,20 +15,19 @@ use lib.Ieee.Fits.{add-fits, div-fits}
 use lib.Ieee.Scale.{finite}
 use Rattle.meaning.specs.Scalar.{plain, zero64, one64}
 use Rattle.meaning.proofs.Order as Order
-use Rattle.knots.specs.Search.{seek, some}
+use Rattle.meaning.specs.Search.{seek, some}
 use Rattle.knots.specs.Rules.{knot}
 use Rattle.knots.specs.Span.{spanOf}
 use Rattle.knots.specs.Halving.{halvedOf}
-use Rattle.knots.proofs.Tests.{by-two, no}
-use Rattle.knots.proofs.Searching.{some-found, none-found}
+use Rattle.meaning.proofs.Tests.{by-two, no}
+use Rattle.meaning.proofs.Searching.{some-found, none-found}
 use Rattle.knots.proofs.Sorted.{NotFalling}
 use Rattle.knots.proofs.Accepted.{number-no-nan}
 use Rattle.knots.proofs.Spans.{halved-span}
 use Rattle.curve.specs.Record.{someWild}
-use Rattle.curve.proofs.Rechecked.{each-finite}
+use Rattle.curve.proofs.Wild.{each-finite}
 use Rattle.fit.specs.Parameters.{stepAt, sumOf, parameterAt, knotAt, knotsBy, fitParameter, fitKnots}
-use Rattle.fit.proofs.Plus.{plus, root-plus, add-plus, div-plus, zero-least, sum-not-below}
-use Rattle.fit.proofs.Plus.{finite-over, over-no-nan, over-in-order, over-at-most-one, equal-same}
+use Rattle.fit.proofs.Plus.{plus, root-plus, add-plus, div-plus, zero-least, sum-not-below, finite-over, over-no-nan, over-in-order, over-at-most-one, equal-same}
 use Rattle.fit.proofs.Sums.{sum-none, sum-turn, parameter-inner, parameter-last}
 use Rattle.fit.proofs.Rows.{listed-at}
 

@@ -11,9 +11,9 @@ use lib.ListN.{length, getD, set}
 use lib.Ieee.{Float}
 use Rattle.meaning.specs.Scalar.{Ops, plain, zero64, one64}
 use Rattle.meaning.specs.Table.{at1}
-use Rattle.knots.specs.Search.{listed}
+use Rattle.meaning.specs.Search.{listed}
 use Rattle.knots.specs.Halving.{halvedOf}
-use Rattle.knots.proofs.Filling.{length-listed, at-listed}
+use Rattle.meaning.proofs.Filling.{length-listed, at-listed}
 use Rattle.solve.specs.Rows.{allBelow, flat, Shaped}
 use Rattle.solve.proofs.Lists.{length-cond, blend, blend-start, blend-next, blend-all}
 use Rattle.solve.proofs.Flat.{shaped-set}

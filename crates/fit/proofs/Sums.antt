@@ -6,12 +6,12 @@ use Prim.Native.Nat.{ℕ, zero, suc, _+_, _-_, _≤_, _<_}
 use native.Mathlib.Omega.{arith}
 use lib.ListN.{replicate}
 use lib.Ieee.{Float, nan}
-use Rattle.knots.proofs.Filling.{Filled}
+use Rattle.meaning.proofs.Filling.{Filled}
 use lib.Dec.{ltb, eqb}
 use borrow.Author.Tests.{lt-ltb, le-ltb, ltb-true, ne-eqb}
 use Rattle.meaning.specs.Scalar.{Ops, plain, zero64, one64}
 use Rattle.meaning.specs.Loops.{turns}
-use Rattle.knots.specs.Search.{listed}
+use Rattle.meaning.specs.Search.{listed}
 use Rattle.solve.proofs.Lists.{turns-next}
 use Rattle.fit.specs.Parameters.{sumOf, parameterAt, knotAt, knotsBy}
 

@@ -13,7 +13,7 @@ use Rattle.meaning.specs.Table.{at1}
 use Rattle.meaning.specs.Refusals.{Row, row, firstOf}
 use Rattle.knots.specs.Span.{spanOf}
 use Rattle.knots.specs.Halving.{halvedOf}
-use Rattle.knots.proofs.Filling.{Filled}
+use Rattle.meaning.proofs.Filling.{Filled}
 use Rattle.solve.specs.Rows.{flat, rowsOf, Shaped}
 use Rattle.solve.specs.Outcome.{Solution, solutionOf, fits, solveOf, workOf}
 use Rattle.solve.proofs.Flat.{flat-of-rows, rows-shaped-of}
@@ -21,7 +21,7 @@ use Rattle.solve.proofs.Outcomes.{fits-true, solve-of-rows, work-of-rows}
 use Rattle.curve.specs.declared.Curve.{Curve}
 use Rattle.curve.specs.declared.Built.{Built}
 use Rattle.curve.specs.Record.{someWild, emptyCurve}
-use Rattle.curve.proofs.Rows.{row-applies, row-passes}
+use Rattle.meaning.proofs.Rows.{row-applies, row-passes}
 use Rattle.curve.proofs.Assembled.{built-refused, built-made}
 use Rattle.fit.specs.Parameters.{stepAt, parameterAt, knotsBy, fitParameter}
 use Rattle.fit.specs.System.{rowsOk, fitRow, fitRows}

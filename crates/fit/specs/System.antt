@@ -9,7 +9,7 @@ use lib.Dec.{ltb, leb, eqb}
 use lib.Ieee.{Float}
 use Rattle.meaning.specs.Scalar.{Ops, zero64, one64}
 use Rattle.meaning.specs.Table.{at1}
-use Rattle.knots.specs.Search.{listed}
+use Rattle.meaning.specs.Search.{listed}
 use Rattle.basis.specs.Basis.{basisOf}
 use Rattle.plane.specs.Vector.{Vector}
 use Rattle.solve.specs.Rows.{allBelow}

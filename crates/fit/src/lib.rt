@@ -1,16 +1,15 @@
 // Curves through points: the parameters and knots, the system of the control points, and the build of both forms.
 ghost use mathlib.Core.Path.{_≡_};
-ghost use mathlib.Core.Bool.{true, false, not, _&&_};
+ghost use mathlib.Core.Bool.{true, not};
 ghost use mathlib.Core.List.{[], _∷_};
 ghost use Prim.Native.Nat.{_+_, _-_, _*_, _/_, _≤_, _<_};
 ghost use lib.ListN.{length};
 ghost use lib.Ieee.{nan};
-ghost use lib.Ieee.Scale.{finite};
 ghost use Rattle.meaning.specs.Scalar.{plain};
 ghost use Rattle.meaning.specs.Table.{at1};
 ghost use Rattle.meaning.specs.Refusals.{row};
-ghost use Rattle.knots.specs.Search.{listed};
-ghost use Rattle.knots.proofs.Filling.{Filled};
+ghost use Rattle.meaning.specs.Search.{listed};
+ghost use Rattle.meaning.proofs.Filling.{Filled};
 ghost use Rattle.plane.specs.View.{view};
 ghost use Rattle.solve.specs.Outcome.{workOf};
 ghost use Rattle.fit.specs.Parameters.{pointAt, stepAt, sumOf, parameterAt, knotAt, knotsBy};
@@ -121,13 +120,6 @@ fn knots_by(p: &[f64; 64], n: usize) -> [f64; 70]
 
 // ---- the system
 
-// Whether both hold.
-fn both(a: bool, b: bool) -> bool
-    ensures { λ r. ⌜ r ≡ (a && b) ⌝ }
-{
-    if a { b } else { false }
-}
-
 // Column k of a row with the four numbers in the columns i - 3 to i.
 fn spread_at(four: [f64; 4], i: usize, k: usize) -> f64
     requires { ⌜ k ≤ 66 ⌝ }
@@ -166,7 +158,7 @@ fn fill_row(t: &mut [f64], four: [f64; 4], i: usize, m: usize, b: P2) -> bool
     for k in 0..end {
         let v = number_at(four, i, m, b, k);
         t[k] = v;
-        fine = both(fine, number::is_finite(v));
+        fine = number::both(fine, number::is_finite(v));
     }
     fine
 }
@@ -231,7 +223,7 @@ fn fill<'a>(w: &mut [f64], u: &'a [f64; 70], p: &'a [f64; 64], q: &'a [f64], n: 
     let mut fine = true;
     let m = n + 2;
     for r in 0..m {
-        fine = both(fine, fill_at(w, u, p, q, n, r));
+        fine = number::both(fine, fill_at(w, u, p, q, n, r));
     }
     fine
 }

@@ -17,10 +17,10 @@ use Rattle.meaning.specs.Scalar.{plain}
 use Rattle.meaning.specs.Table.{at1}
 use Rattle.meaning.specs.Loops.{turns}
 use Rattle.meaning.specs.Refusals.{firstOf}
-use Rattle.knots.specs.Search.{seekFrom}
+use Rattle.meaning.specs.Search.{seekFrom}
 use Rattle.knots.specs.Rules.{knot, count, knotRules}
 use Rattle.knots.specs.Span.{spanOf}
-use Rattle.knots.proofs.Tests.{and-left, and-right}
+use Rattle.meaning.proofs.Tests.{and-left, and-right}
 use Rattle.knots.proofs.Accepted.{Accepted, accepted}
 use Rattle.basis.specs.Triangle.{columnTurn, columnOf, sidesTurn, triangleOf}
 use Rattle.basis.specs.Basis.{valuesOf, functionOf, functionsOf, scaled, derivativesOf, basisOf}

@@ -19,8 +19,8 @@ use Rattle.meaning.proofs.Order as order
 use Rattle.knots.specs.Rules.{knot, count, crowded, someCrowded}
 use Rattle.knots.specs.Repeat.{repeats}
 use Rattle.knots.specs.Span.{spanOf}
-use Rattle.knots.proofs.Tests.{no, by-two}
-use Rattle.knots.proofs.Searching.{none-found, found-none}
+use Rattle.meaning.proofs.Tests.{no, by-two}
+use Rattle.meaning.proofs.Searching.{none-found, found-none}
 use Rattle.knots.proofs.Sorted.{NotFalling, no-nan, ordered, front}
 use Rattle.knots.proofs.Repeats.{one-pass}
 use Rattle.knots.proofs.Accepted.{Accepted, number-no-nan}

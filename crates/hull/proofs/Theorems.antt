@@ -14,9 +14,9 @@ use lib.Ieee.Scale.{finite}
 use Rattle.meaning.specs.Scalar.{plain}
 use Rattle.meaning.specs.Loops.{turns}
 use Rattle.meaning.specs.Table.{at1}
-use Rattle.knots.specs.Search.{some}
+use Rattle.meaning.specs.Search.{some}
 use Rattle.knots.specs.Span.{spanOf}
-use Rattle.knots.proofs.Searching.{none-found, found-none}
+use Rattle.meaning.proofs.Searching.{none-found, found-none}
 use Rattle.knots.proofs.Accepted.{Accepted}
 use Rattle.plane.specs.Vector.{Vector}
 use Rattle.evaluate.specs.Point.{Shape, placed, insideOf, ordersOf}

@@ -11,12 +11,12 @@ use lib.Ieee.{Float, nan, inf, fin, lt, eq, ne, isNan}
 use lib.Ieee.Scale.{finite}
 use Rattle.meaning.specs.Refusals.{firstOf}
 use Rattle.meaning.proofs.Order.{not-lt-le, not-le-lt}
-use Rattle.knots.specs.Search.{some}
+use Rattle.meaning.specs.Search.{some}
 use Rattle.knots.specs.Rules.{knot, count, unfit, someUnfit, unlike, noInterval, crowded, knotRules}
 use Rattle.knots.specs.Repeat.{repeats}
-use Rattle.knots.proofs.Tests.{or-left, or-right}
+use Rattle.meaning.proofs.Tests.{or-left, or-right}
 use Rattle.knots.proofs.Refused.{row-passed, handles-passed, none-unfit}
-use Rattle.knots.proofs.Searching.{none-found}
+use Rattle.meaning.proofs.Searching.{none-found}
 use Rattle.knots.proofs.Sorted.{NotFalling, no-nan}
 use Rattle.knots.proofs.Repeats.{Sound, one-pass}
 

@@ -6,10 +6,10 @@ use Prim.Native.Nat.{ℕ, _+_, _≤_, _<_}
 use lib.ListN.{length}
 use lib.Ieee.{Float}
 use Rattle.meaning.specs.Refusals.{firstOf}
-use Rattle.knots.specs.Search.{seek, some}
+use Rattle.meaning.specs.Search.{seek, some}
 use Rattle.knots.specs.Rules.{unlike, someUnfit, noInterval, knotRules}
 use Rattle.knots.specs.Repeat.{repeats}
-use Rattle.knots.proofs.Searching.{told-some, told-none}
+use Rattle.meaning.proofs.Searching.{told-some, told-none}
 use Rattle.knots.proofs.Repeats.{one-pass}
 use Rattle.knots.proofs.Refused.{none-unfit}
 use Rattle.knots.proofs.Accepted.{sound}

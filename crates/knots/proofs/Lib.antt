@@ -1,11 +1,8 @@
--- The laws of searching, of sorted knots, of the rules, of the uniform knots and of the span.
-pub mod Tests
-pub mod Searching
+-- The laws of sorted knots, of the rules, of the uniform knots and of the span.
 pub mod Sorted
 pub mod Repeats
 pub mod Accepted
 pub mod Spans
-pub mod Filling
 pub mod Refused
 pub mod Uniforms
 pub mod LastRows

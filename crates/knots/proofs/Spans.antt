@@ -13,13 +13,13 @@ use lib.ListN.{take}
 use lib.Ieee.{Float, nan, inf, fin, lt, le, isNan}
 use Rattle.meaning.specs.Loops.{spin, rest}
 use Rattle.meaning.proofs.Order.{nan-lt, nan-le, le-nan, lt-le, le-trans, lt-not-le, not-lt-le, not-le-lt, lt-left}
-use Rattle.knots.specs.Search.{seek}
+use Rattle.meaning.specs.Search.{seek}
 use Rattle.knots.specs.Rules.{knot}
 use Rattle.knots.specs.Span.{holds, spanOf}
 use Rattle.knots.specs.Halving.{width, apart, middle, half, narrow, halvedOf}
 use Rattle.knots.specs.declared.Ends.{Ends}
-use Rattle.knots.proofs.Tests.{by-two, and-left, and-right, no}
-use Rattle.knots.proofs.Searching.{seek-is}
+use Rattle.meaning.proofs.Tests.{by-two, and-left, and-right, no}
+use Rattle.meaning.proofs.Searching.{seek-is}
 use Rattle.knots.proofs.Sorted.{NotFalling, no-nan, ordered, front}
 use Rattle.knots.proofs.Accepted.{Accepted}
 

@@ -24,9 +24,9 @@ use Rattle.meaning.proofs.Order.{le-left, eq-refl, eq-sym, eq-le, le-not-lt, lt
 use Rattle.knots.specs.Rules.{knot, unfit, unlike, knotRules}
 use Rattle.knots.specs.Uniform.{quotient, uniformAt, uniformOf}
 use Rattle.knots.specs.Repeat.{repeats}
-use Rattle.knots.proofs.Tests.{by-two, no}
-use Rattle.knots.proofs.Searching.{found-none}
-use Rattle.knots.proofs.Filling.{length-listed, at-listed}
+use Rattle.meaning.proofs.Tests.{by-two, no}
+use Rattle.meaning.proofs.Searching.{found-none}
+use Rattle.meaning.proofs.Filling.{length-listed, at-listed}
 use Rattle.knots.proofs.Accepted.{accepts}
 
 -- ---- values by their fractions

@@ -1,5 +1,4 @@
 -- The knot rules, the uniform knots and the span.
-pub mod Search
 pub mod Rules
 pub mod Repeat
 pub mod Uniform

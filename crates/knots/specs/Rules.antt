@@ -10,7 +10,7 @@ use lib.Ieee.Scale.{finite}
 use Rattle.meaning.specs.Scalar.{plain}
 use Rattle.meaning.specs.Table.{at1}
 use Rattle.meaning.specs.Refusals.{Row, row}
-use Rattle.knots.specs.Search.{some}
+use Rattle.meaning.specs.Search.{some}
 
 -- knot i
 abbrev pub knot : List Float → ℕ → Float

@@ -4,7 +4,7 @@ use mathlib.Core.Bool.{Bool, _&&_, cond}
 use mathlib.Core.List.{List}
 use Prim.Native.Nat.{ℕ, _+_, _-_}
 use lib.Ieee.{Float, lt, le}
-use Rattle.knots.specs.Search.{seek}
+use Rattle.meaning.specs.Search.{seek}
 use Rattle.knots.specs.Rules.{knot}
 
 -- knot i ≤ t < knot i+1

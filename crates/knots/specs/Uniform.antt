@@ -7,7 +7,7 @@ use lib.Dec.{ltb, leb}
 use lib.IntN.{pos}
 use lib.Ieee.{Float, binary64, div, ofInt}
 use Rattle.meaning.specs.Scalar.{zero64, one64}
-use Rattle.knots.specs.Search.{listed}
+use Rattle.meaning.specs.Search.{listed}
 
 -- i/s
 abbrev pub quotient : ℕ → ℕ → Float

@@ -5,7 +5,7 @@ ghost use mathlib.Core.List.{[]};
 ghost use Prim.Native.Nat.{_+_, _≤_, _<_};
 ghost use lib.ListN.{length};
 ghost use Rattle.meaning.specs.Refusals.{firstOf};
-ghost use Rattle.knots.specs.Search.{seek};
+ghost use Rattle.meaning.specs.Search.{seek};
 ghost use Rattle.knots.specs.Rules.{unfit, someUnfit, unlike, knotRules};
 ghost use Rattle.knots.specs.Repeat.{repeats};
 ghost use Rattle.knots.specs.Uniform.{uniformAt, uniformOf};

@@ -1,6 +1,6 @@
 -- The three laws of a `for` loop: its invariant `At` holds where it begins, after each turn, and gives `run` at its end. Assumes nothing.
 use mathlib.Core.Path.{_≡_, ap, _∙_}
-use Prim.Native.Nat.{ℕ, zero, suc, _+_, _-_, _≤_, _<_}
+use Prim.Native.Nat.{ℕ, suc, _+_, _-_, _≤_, _<_}
 use native.Mathlib.Nat.{sub-self, le-refl}
 use native.Mathlib.Omega.{arith}
 use Rattle.meaning.specs.Loops.{turns, run}

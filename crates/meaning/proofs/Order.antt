@@ -10,11 +10,9 @@ use borrow.Author.Tests.{ltb-true, ltb-false, leb-true, leb-false, eqb-true, lt-
 use lib.Dec.{ltb, leb, eqb}
 use lib.Ieee.{Float, nan, inf, fin, up, down, below, level, lt, eq, le, isNan}
 use lib.Ieee.Fits.{down-pos}
+use Rattle.meaning.proofs.Tests.{no}
 
 -- ---- tests
-
-no : {A : Type 0} → false ≡ true → A
-no h = absurd (true≢false (sym h))
 
 same-test : (a b : Bool) → (a ≡ true → b ≡ true) → (b ≡ true → a ≡ true) → a ≡ b
 same-test true b h g = sym (h refl)

@@ -1,5 +1,6 @@
-// What the curve code asks of a double, by comparisons: each function answers for every bit pattern.
+// What the curve code asks of a double, by comparisons: each function answers for every bit pattern. And two tests joined.
 ghost use mathlib.Core.Path.{_≡_};
+ghost use mathlib.Core.Bool.{_&&_, _||_};
 ghost use lib.Ieee.Scale.{finite};
 ghost use Rattle.meaning.specs.Number.{sizeOf, smaller, atLeast, clampOf};
 ghost use Rattle.number.specs.Magnitude.{magnitudeOf};
@@ -72,4 +73,20 @@ pub fn clamp(x: f64, lo: f64, hi: f64) -> f64
         return hi;
     }
     y
+}
+
+// ---- two tests joined: a value, where the operators of the language are branches
+
+// Whether both hold.
+pub fn both(a: bool, b: bool) -> bool
+    ensures { λ r. ⌜ r ≡ (a && b) ⌝ }
+{
+    if a { b } else { false }
+}
+
+// Whether one of the two holds.
+pub fn either(a: bool, b: bool) -> bool
+    ensures { λ r. ⌜ r ≡ (a || b) ⌝ }
+{
+    if a { true } else { b }
 }

@@ -52,7 +52,7 @@ fn print_found(f: Found) {
 fn print_order(order: usize) {
     let curve = uniform(&a()).curve;
     let mut out = [0.0; 12];
-    print_refusal(curve::evaluate(curve, 0.25, order, &mut out).number);
+    print_refusal(point::evaluate(curve, 0.25, order, &mut out).number);
 }
 
 // Writes whether a fit through these points is accepted.

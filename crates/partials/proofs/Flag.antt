@@ -1,6 +1,7 @@
 -- A flag that a loop keeps: `if !test(..) { flag = false; }`. Assumes nothing.
 use mathlib.Core.Path.{_≡_, refl, sym, ap, _∙_}
 use mathlib.Core.Bool.{Bool, true, false, not, _&&_}
+use borrow.Author.Tests.{not-true, not-false}
 
 and-false : (a : Bool) → a && false ≡ false
 and-false true = refl
@@ -10,17 +11,9 @@ and-true : (a : Bool) → a && true ≡ a
 and-true true = refl
 and-true false = refl
 
-told-false : (b : Bool) → not b ≡ true → b ≡ false
-told-false true h = sym h
-told-false false h = refl
-
-told-true : (b : Bool) → not b ≡ false → b ≡ true
-told-true true h = refl
-told-true false h = sym h
-
 -- the test failed, and the flag is down; it passed, and the flag is as it was
 pub cleared : (a t : Bool) {b f : Bool} → not t ≡ true → f ≡ false → t ≡ b → f ≡ (a && b)
-cleared a t h g e = g ∙ sym (and-false a) ∙ ap (λ (x : Bool). a && x) (sym (told-false t h) ∙ e)
+cleared a t h g e = g ∙ sym (and-false a) ∙ ap (λ (x : Bool). a && x) (sym (not-true t h) ∙ e)
 
 pub kept : (a t : Bool) {b f : Bool} → not t ≡ false → f ≡ a → t ≡ b → f ≡ (a && b)
-kept a t h g e = g ∙ sym (and-true a) ∙ ap (λ (x : Bool). a && x) (sym (told-true t h) ∙ e)
+kept a t h g e = g ∙ sym (and-true a) ∙ ap (λ (x : Bool). a && x) (sym (not-false t h) ∙ e)

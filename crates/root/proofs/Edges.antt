@@ -12,10 +12,8 @@ use lib.Ieee.Bits.{is-true, ofBits-toBits}
 use lib.Ieee.Compare.{differs-from-itself}
 use lib.Ieee.Fits.{up-pos}
 use Rattle.meaning.specs.Root.{rootOf}
+use Rattle.meaning.proofs.Tests.{no}
 use Rattle.root.proofs.Doubles.{finite-below}
-
-no : false ≡ true → ⊥
-no e = subst T (sym e) tt
 
 -- the code's 0.0 is a pattern, and the definition's a number
 pub zero-is : ofBits binary64 0 ≡ fin false 0 (pos 0)

@@ -9,11 +9,11 @@ use native.Mathlib.Omega.{arith}
 use borrow.Author.Tests.{ltb-true, ltb-false, lt-ltb, le-ltb, eqb-true, ne-eqb, not-true, not-false}
 use lib.Arith.{digits-div, digits-mod}
 use lib.Dec.{leb, ltb, eqb}
-use lib.ListN.{length, getD, drop, List·getD-eq-default}
+use lib.ListN.{length, drop, List·getD-eq-default}
 use lib.Seq.{drop-cons, drop-length}
 use Rattle.meaning.specs.Loops.{turns}
-use Rattle.knots.proofs.Tests.{no, by-two, and-left, and-right}
-use Rattle.knots.proofs.Searching.{none-found, seek-first}
+use Rattle.meaning.proofs.Tests.{no, by-two, and-left, and-right}
+use Rattle.meaning.proofs.Searching.{none-found, seek-first}
 use Rattle.sheet_read.specs.Text.{text, byteAt, every, wordStands}
 use Rattle.sheet_read.specs.Number.{isDecimal, isLetter, isHex, digitOf, glyph, numberAt, digitsAt, countAt, countStands, doubleStands}
 use Rattle.sheet_read.specs.Grammar.{byteAfter, numberPlace, numbersStand, noSection, sectionAt, sheetOf}

@@ -3,7 +3,7 @@ use mathlib.Core.Path.{_≡_, sym, ap}
 use mathlib.Core.Bool.{Bool, true, false, not}
 use Prim.Native.Nat.{ℕ, _+_, _≤_, _<_, zero-le}
 use native.Mathlib.Nat.{le-refl}
-use Rattle.knots.proofs.Searching.{Passed, passed, onward, found, ended, told-some, told-none}
+use Rattle.meaning.proofs.Searching.{Passed, passed, onward, found, ended, told-some, told-none}
 use Rattle.sheet_read.specs.Text.{every}
 
 -- the test holds at the indices below k

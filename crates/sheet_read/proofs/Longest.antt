@@ -2,14 +2,14 @@
 use mathlib.Core.Path.{_≡_, refl, subst}
 use mathlib.Core.Bool.{true, _||_, cond}
 use mathlib.Core.List.{List}
-use Prim.Native.Nat.{ℕ, _+_, _-_, _*_, _≤_, _<_}
+use Prim.Native.Nat.{ℕ, _+_, _*_, _≤_, _<_}
 use native.Mathlib.Nat.{add-zero}
 use native.Mathlib.Omega.{arith}
 use borrow.Author.Tests.{leb-true, leb-false, eqb-true, eqb-false, ne-eqb}
 use lib.Dec.{leb, eqb}
 use lib.ListN.{length}
 use Rattle.meaning.specs.Loops.{turns}
-use Rattle.knots.proofs.Tests.{by-two, and-right}
+use Rattle.meaning.proofs.Tests.{by-two, and-right}
 use Rattle.sheet_read.specs.Text.{text, byteAt, wordStands}
 use Rattle.sheet_read.specs.Number.{digitOf, numberAt, digitsAt, countAt, countStands}
 use Rattle.sheet_read.specs.Grammar.{numbersStand, sectionAt, sheetOf}

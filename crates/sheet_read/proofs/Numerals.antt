@@ -11,8 +11,8 @@ use lib.Dec.{leb, eqb}
 use lib.ListN.{length, List·getD-eq-default}
 use Rattle.meaning.specs.Loops.{turns}
 use borrow.Author.Tests.{leb-true, le-leb, lt-leb, eqb-false, not-true, not-false}
-use Rattle.knots.proofs.Tests.{no, by-two, and-left, and-right}
-use Rattle.knots.proofs.Searching.{seek-first}
+use Rattle.meaning.proofs.Tests.{no, by-two, and-left, and-right}
+use Rattle.meaning.proofs.Searching.{seek-first}
 use Rattle.sheet_read.specs.Number.{within, isDecimal, isLetter, digitOf, numberAt, digitsAt, countAt, countStands}
 use Rattle.sheet_read.specs.Text.{byteAt}
 

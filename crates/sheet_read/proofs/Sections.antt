@@ -7,7 +7,7 @@ use native.Mathlib.Nat.{mul-le-mul-left, le-trans}
 use native.Mathlib.Omega.{arith}
 use lib.ListN.{length}
 use lib.Dec.{eqb}
-use Rattle.knots.proofs.Tests.{by-two, and-left, and-right}
+use Rattle.meaning.proofs.Tests.{by-two}
 use Rattle.sheet_read.specs.Text.{text, wordStands}
 use Rattle.sheet_read.specs.Number.{numberAt, digitsAt, countAt, countStands}
 use Rattle.sheet_read.specs.Grammar.{numbersStand, noSection, sectionAt, sheetOf}

@@ -6,7 +6,7 @@ use mathlib.Core.List.{List}
 use lib.Dec.{leb, ltb, eqb}
 use lib.Ieee.{Float, binary64, ofBits}
 use Rattle.meaning.specs.Loops.{run}
-use Rattle.knots.specs.Search.{seek}
+use Rattle.meaning.specs.Search.{seek}
 use Rattle.sheet_read.specs.Text.{byteAt, every}
 
 abbrev pub within : ℕ → ℕ → ℕ → Bool

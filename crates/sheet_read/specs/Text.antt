@@ -6,7 +6,7 @@ use mathlib.Core.Bool.{Bool, not}
 use mathlib.Core.List.{List, [], _∷_}
 use lib.ListN.{length, getD}
 use lib.Dec.{eqb}
-use Rattle.knots.specs.Search.{some}
+use Rattle.meaning.specs.Search.{some}
 
 -- the bytes of a word, by their codes
 abbrev pub text : String → List ℕ

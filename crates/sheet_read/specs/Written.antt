@@ -1,6 +1,6 @@
 -- The text of what a sheet says. The contracts do not need it: `proofs/Canonical.antt` shows that a text which has the form is the one written here, so
 -- that every sheet has one text only.
-use Prim.Native.Nat.{ℕ, zero, suc, _+_, _*_, _/_, _%_}
+use Prim.Native.Nat.{ℕ, zero, suc, _*_, _/_, _%_}
 use mathlib.Core.Bool.{Bool, cond}
 use mathlib.Core.List.{List, [], _∷_, _++_}
 use lib.Dec.{ltb}

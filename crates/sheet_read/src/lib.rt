@@ -1,6 +1,6 @@
 // The sheet's grammar: what stands at a place of a text, the sections, the sheet.
 ghost use mathlib.Core.Path.{_≡_};
-ghost use mathlib.Core.Bool.{not, _&&_, _||_, cond};
+ghost use mathlib.Core.Bool.{not, _||_, cond};
 ghost use Prim.Native.Nat.{_+_, _*_, _^_, _≤_, _<_};
 ghost use lib.ListN.{length};
 ghost use lib.Dec.{eqb};
@@ -219,20 +219,6 @@ pub struct Sheet {
     pub parameters: Section,
 }
 
-// Whether both hold.
-fn both(a: bool, b: bool) -> bool
-    ensures { λ r. ⌜ r ≡ (a && b) ⌝ }
-{
-    if a { b } else { false }
-}
-
-// Whether one of the two holds.
-fn either(a: bool, b: bool) -> bool
-    ensures { λ r. ⌜ r ≡ (a || b) ⌝ }
-{
-    if a { true } else { b }
-}
-
 // How long the first line is, `fit` or `control`.
 fn form_line(fit: bool) -> usize
     ensures { λ r. ⌜ r ≡ cond fit 4 8 ⌝ }
@@ -245,12 +231,15 @@ pub fn read_sheet(s: &[u8]) -> Sheet
     ensures { λ r. ⌜ r ≡ sheetOf (now (s .entry)) ⌝ }
 {
     let fit = has_word(s, b"fit\n", 0);
-    let form = either(fit, has_word(s, b"control\n", 0));
+    let form = number::either(fit, has_word(s, b"control\n", 0));
     let points = read_section(s, b"points ", 66, 2, form_line(fit));
     let knots = read_section(s, b"knots ", 70, 1, points.next);
     let parameters = read_section(s, b"at ", 1024, 1, knots.next);
-    let ended = both(parameters.formed, parameters.next == s.len());
-    let formed = both(form, both(points.formed, both(knots.formed, ended)));
+    let ended = number::both(parameters.formed, parameters.next == s.len());
+    let formed = number::both(
+        form,
+        number::both(points.formed, number::both(knots.formed, ended)),
+    );
     Sheet {
         formed,
         fit,

@@ -1,22 +1,22 @@
 -- What is printed in decimal is below 100, and so printed as a sheet writes a count. Assumes nothing.
-use mathlib.Core.Path.{_≡_, refl, sym, ap, _∙_}
+use mathlib.Core.Path.{_≡_, sym, ap, _∙_}
 use mathlib.Core.Bool.{Bool, true, false, _&&_, cond}
 use mathlib.Core.List.{List, [], _∷_}
-use Prim.Native.Nat.{ℕ, _+_, _*_, _/_, _%_, _≤_, _<_}
+use Prim.Native.Nat.{ℕ, _*_, _/_, _%_, _≤_, _<_}
 use native.Mathlib.Omega.{arith}
-use borrow.Author.Tests.{ltb-true, ltb-false, lt-ltb, le-ltb}
+use borrow.Author.Tests.{ltb-true, ltb-false, lt-ltb}
 use lib.Dec.{T, ltb, ltb→lt, eqb}
 use lib.ListN.{length}
 use lib.Ieee.{Float}
 use lib.Ieee.Fits.{and-l, and-r}
 use Rattle.meaning.specs.Refusals.{Row, firstOf}
 use Rattle.knots.specs.Rules.{knotRules}
-use Rattle.knots.proofs.Tests.{by-two}
+use Rattle.meaning.proofs.Tests.{by-two}
 use Rattle.curve.specs.declared.Curve.{Curve}
 use Rattle.curve.specs.Record.{recordRules}
-use Rattle.curve.specs.Evaluate.{pointRules}
+use Rattle.point.specs.Evaluate.{pointRules}
 use Rattle.curve.specs.Build.{handleRules, controlRules, builtBy}
-use Rattle.curve.proofs.Rows.{row-applies, row-passes}
+use Rattle.meaning.proofs.Rows.{row-applies, row-passes}
 use Rattle.fit.specs.Fit.{fitRules, curveThrough, curveOf, buildRules}
 use Rattle.sheet_read.specs.declared.Sheet.{Sheet}
 use Rattle.sheet_read.specs.Number.{glyph}

@@ -1,16 +1,16 @@
 -- The front of a list that a loop fills, and the numbers of a section as a list. Assumes nothing.
 use mathlib.Core.Path.{_≡_, sym, ap, _∙_}
 use mathlib.Core.List.{List}
-use Prim.Native.Nat.{ℕ, _≤_, _<_}
+use Prim.Native.Nat.{ℕ, _<_}
 use native.Mathlib.Nat.{zero-add}
 use native.Mathlib.Omega.{arith}
-use lib.ListN.{length, take, getD}
+use lib.ListN.{length, take}
 use lib.Seq.{ext-getD, length-take-le, getD-take}
 use lib.Ieee.{nan}
 use Rattle.meaning.specs.Scalar.{plain}
 use Rattle.meaning.specs.Table.{at1}
-use Rattle.knots.specs.Search.{listed}
-use Rattle.knots.proofs.Filling.{Filled, length-listed, at-listed}
+use Rattle.meaning.specs.Search.{listed}
+use Rattle.meaning.proofs.Filling.{Filled, length-listed, at-listed}
 use Rattle.sheet_read.specs.Number.{doubleAt}
 use Rattle.sheet_read.specs.Grammar.{numberPlace, numbersAt}
 

@@ -1,23 +1,22 @@
 -- The lines of a curve's parameters. Assumes nothing.
 use mathlib.Core.Path.{_≡_, refl, sym, ap, _∙_}
-use mathlib.Core.Bool.{Bool, true, false, cond}
+use mathlib.Core.Bool.{cond}
 use mathlib.Core.List.{List, [], _∷_, _++_, append-assoc, append-nil}
 use Prim.Native.Nat.{ℕ, zero, suc, _+_, _*_, _≤_, _<_}
-use native.Mathlib.Nat.{zero-add}
 use native.Mathlib.Numerals.{add-one}
 use native.Mathlib.Omega.{arith}
 use borrow.Author.Tests.{eq-eqb, ne-eqb, eqb-true, eqb-false}
 use lib.Dec.{eqb}
-use lib.ListN.{length, take, getD, replicate, length-append}
+use lib.ListN.{length, take, replicate, length-append}
 use lib.Seq.{paste, take-suc, take-all}
 use lib.Ieee.{Float, nan}
 use Rattle.meaning.specs.Scalar.{plain, zero64}
 use Rattle.meaning.specs.Table.{at1}
 use Rattle.meaning.specs.Refusals.{firstOf}
-use Rattle.knots.proofs.Tests.{by-two}
+use Rattle.meaning.proofs.Tests.{by-two}
 use Rattle.curve.specs.declared.Curve.{Curve}
 use Rattle.curve.specs.Record.{shapeOf}
-use Rattle.curve.specs.Evaluate.{pointOrders}
+use Rattle.point.specs.Evaluate.{pointOrders}
 use Rattle.sheet_text.specs.Printed.{refusalText, headText, pointText, Put}
 use Rattle.sheet_text.specs.Curves.{lineRules, lineText, linesText, builtText}
 use Rattle.sheet_text.proofs.Putting.{joined, nothing, refusal-short, head-short, point-long}

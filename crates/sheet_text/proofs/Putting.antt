@@ -9,8 +9,8 @@ use lib.Dec.{ltb}
 use lib.Ieee.{Float, binary64, toBits}
 use lib.ListN.{length, take, drop, length-append}
 use lib.Seq.{paste, paste-zero, take-paste, drop-paste, take-length, drop-drop}
-use Rattle.knots.proofs.Tests.{by-two}
-use Rattle.knots.proofs.Filling.{length-listed}
+use Rattle.meaning.proofs.Tests.{by-two}
+use Rattle.meaning.proofs.Filling.{length-listed}
 use Rattle.sheet_read.specs.Text.{text}
 use Rattle.sheet_read.specs.Number.{glyph}
 use Rattle.sheet_text.specs.Printed.{hexText, decimalText, doubleText, refusalText, headText, pointText, Put}

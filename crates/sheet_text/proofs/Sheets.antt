@@ -1,6 +1,6 @@
 -- From the build of a sheet to its answer. Assumes nothing.
-use mathlib.Core.Path.{_≡_, refl, sym, ap, _∙_, subst}
-use mathlib.Core.Bool.{Bool, true, false, not, cond}
+use mathlib.Core.Path.{_≡_, sym, ap, _∙_, subst}
+use mathlib.Core.Bool.{true, false}
 use mathlib.Core.List.{List}
 use Prim.Native.Nat.{ℕ, _≤_, _<_}
 use native.Mathlib.Nat.{zero-add, le-trans}
@@ -12,7 +12,7 @@ use lib.Ieee.{Float}
 use Rattle.meaning.specs.Refusals.{firstOf}
 use Rattle.curve.specs.declared.Built.{Built}
 use Rattle.fit.specs.Fit.{buildRules, curveOf, workOfBuild, AnswerCurve}
-use Rattle.knots.proofs.Tests.{by-two}
+use Rattle.meaning.proofs.Tests.{by-two}
 use Rattle.sheet_read.proofs.Sections.{limits}
 use Rattle.sheet_read.specs.declared.Sheet.{Sheet}
 use Rattle.sheet_read.specs.Grammar.{sheetOf}

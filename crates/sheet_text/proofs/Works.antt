@@ -8,9 +8,8 @@ use borrow.Author.Tests.{le-ltb, eqb-true, eqb-false}
 use lib.Dec.{eqb}
 use lib.ListN.{length}
 use lib.Ieee.{Float}
-use Rattle.meaning.specs.Refusals.{Row, firstOf}
-use Rattle.knots.proofs.Tests.{by-two}
-use Rattle.curve.specs.declared.Curve.{Curve}
+use Rattle.meaning.specs.Refusals.{firstOf}
+use Rattle.meaning.proofs.Tests.{by-two}
 use Rattle.curve.specs.Record.{emptyCurve}
 use Rattle.curve.specs.Build.{handleRules}
 use Rattle.fit.specs.Fit.{fitRules, workShort, buildRules, curveOf}
@@ -19,7 +18,7 @@ use Rattle.sheet_read.specs.declared.Sheet.{Sheet}
 use Rattle.sheet_read.specs.Grammar.{sheetOf}
 use Rattle.sheet_text.specs.Printed.{refusalText}
 use Rattle.sheet_text.specs.Curves.{builtText}
-use Rattle.sheet_text.specs.Answer.{pointsOf, knotsOf, givenOf, parametersOf, rulesOf, sheetText, answerText}
+use Rattle.sheet_text.specs.Answer.{pointsOf, knotsOf, givenOf, parametersOf, sheetText, answerText}
 
 -- long enough for any fit that the rules before 14 let through
 fit-same : (q : List Float) (given : Bool) (ks work : List Float) → 4488 ≤ length work → firstOf (fitRules q given ks (workShort q work)) ≡ firstOf (fitRules q given ks false)

@@ -10,7 +10,7 @@ use Rattle.meaning.specs.Table.{at1}
 use Rattle.meaning.specs.Refusals.{Row, firstOf}
 use Rattle.curve.specs.declared.Curve.{Curve}
 use Rattle.curve.specs.Record.{shapeOf, recordRules}
-use Rattle.curve.specs.Evaluate.{pointOrders, pointRules}
+use Rattle.point.specs.Evaluate.{pointOrders, pointRules}
 use Rattle.sheet_text.specs.Printed.{refusalText, headText, pointText}
 
 -- the rules of evaluation at order 0, with room for the two numbers

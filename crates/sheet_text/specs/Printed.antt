@@ -8,7 +8,7 @@ use lib.ListN.{length}
 use lib.Seq.{paste}
 use lib.Dec.{ltb}
 use lib.Ieee.{Float, binary64, toBits}
-use Rattle.knots.specs.Search.{listed}
+use Rattle.meaning.specs.Search.{listed}
 use Rattle.sheet_read.specs.Text.{text}
 use Rattle.sheet_read.specs.Number.{glyph}
 

@@ -130,7 +130,7 @@ fn put_line(out: &mut [u8], at: usize, c: Curve, t: f64) -> usize
     ensures { λ r. ⌜ Put (now (out .entry)) at (lineText c t) (now (out .exit)) r ⌝ }
 {
     let mut xy = [0.0; 2];
-    let r = curve::evaluate(c, t, 0, &mut xy);
+    let r = point::evaluate(c, t, 0, &mut xy);
     if r.number != 0 {
         return put_refusal(out, at, r.number);
     }

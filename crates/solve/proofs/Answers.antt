@@ -7,11 +7,13 @@ use lib.ListN.{length, getD, set, drop, length-set, length-append, length-drop, 
 use lib.Seq.{getD-set-same, set-set, take-at}
 use Rattle.meaning.specs.Scalar.{Ops, one64}
 use Rattle.meaning.specs.Table.{at2}
-use Rattle.solve.specs.Rows.{flat, tab, Shaped}
+use Rattle.solve.specs.Rows.{flat, Shaped}
 use Rattle.solve.specs.Elimination.{eliminated}
 use Rattle.solve.specs.Substitution.{lessTerm, remains, answer, answered, answeredUp, backed, solved}
 use Rattle.solve.specs.Outcome.{column}
-use Rattle.solve.proofs.Lists.{blend, length-tab, getD-tab, turns-next, turns-keep}
+use Rattle.meaning.specs.Search.{listed}
+use Rattle.meaning.proofs.Filling.{length-listed, nth-listed}
+use Rattle.solve.proofs.Lists.{blend, turns-next, turns-keep}
 use Rattle.solve.proofs.Flat.{shaped-set, read-cell, write-cell}
 use Rattle.solve.proofs.Steps.{eliminated-shaped}
 
@@ -71,13 +73,13 @@ module _ {A : Type 0} (o : Ops A) (m : ℕ) where
 module _ {A : Type 0} (o : Ops A) (m : ℕ) (M : List (List A)) (c : ℕ) (out : List A) (h : m ≤ length out) where
   pub column-length : length (column o m M c out) ≡ length out
   unfolding column
-  column-length = length-append (tab m (λ r. at2 o M r c)) (drop m out) ∙ omega (arith, length-tab m (λ r. at2 o M r c), length-drop m out)
+  column-length = length-append (listed 0 m (λ r. at2 o M r c)) (drop m out) ∙ omega (arith, length-listed 0 m (λ r. at2 o M r c), length-drop m out)
 
   pub column-at : (r : ℕ) → r < m → getD (column o m M c out) r (o .off) ≡ at2 o M r c
   unfolding column
   column-at r l =
-      List·getD-append (tab m (λ r. at2 o M r c)) (drop m out) (o .off) r (omega (arith, length-tab m (λ r. at2 o M r c))) ∙ getD-tab m (λ r. at2 o M r c) r (o .off) l
+      List·getD-append (listed 0 m (λ r. at2 o M r c)) (drop m out) (o .off) r (omega (arith, length-listed 0 m (λ r. at2 o M r c))) ∙ nth-listed m r (λ r. at2 o M r c) (o .off) l
 
   pub column-end : blend m (column o m M c out) out ≡ column o m M c out
   unfolding column
-  column-end = rw (take-at (tab m (λ r. at2 o M r c)) (drop m out) m (length-tab m (λ r. at2 o M r c)))
+  column-end = rw (take-at (listed 0 m (λ r. at2 o M r c)) (drop m out) m (length-listed 0 m (λ r. at2 o M r c)))

@@ -1,11 +1,7 @@
--- The laws of lists, of rows in a buffer, of one turn of each loop, and of the outcome; systems that are refused; a worked system.
+-- The laws of lists, of rows in a buffer, of one turn of each loop, and of the outcome; a worked system.
 pub mod Lists
 pub mod Flat
 pub mod Steps
 pub mod Answers
 pub mod Outcomes
-pub mod Zeros
-pub mod Refused
-pub mod Twins
-pub mod Fine
 pub mod Examples

@@ -1,40 +1,22 @@
--- A list made index by index, a list that a loop rewrites from the front, and a test of every index. Assumes nothing.
+-- A list that a loop rewrites from the front, and a test of every index. Assumes nothing.
 use mathlib.Core.Path.{_≡_, refl, sym, ap, _∙_, subst}
-use mathlib.Core.Bool.{Bool, true, false, not, _&&_, _||_, cond, true≢false}
+use mathlib.Core.Bool.{Bool, true, false, not, _&&_, _||_, cond}
 use mathlib.Core.Logic.{inl, inr}
 use mathlib.Core.List.{List, [], _∷_, _++_}
 use Prim.Native.Nat.{ℕ, zero, suc, _+_, _*_, _≤_, _<_, suc-le-suc}
-use native.Mathlib.Nat.{le-of-suc-le-suc, not-suc-le-zero, suc-add, zero-add, suc-inj, suc-ne-zero, add-suc, add-zero, mul-le-mul-right, suc-mul, zero-lt-suc, eq-or-lt-of-le}
+use native.Mathlib.Nat.{le-of-suc-le-suc, not-suc-le-zero, zero-add, suc-inj, suc-ne-zero, mul-le-mul-right, suc-mul, zero-lt-suc, eq-or-lt-of-le}
 use native.Mathlib.Omega.{arith}
 use native.Mathlib.Numerals.{add-one}
 use lib.ListN.{length, getD, set, take, drop, replicate}
 use Rattle.meaning.specs.Loops.{turns}
-use Rattle.solve.specs.Rows.{tabFrom, tab, allBelow}
+use Rattle.meaning.proofs.Tests.{and-left, and-right}
+use Rattle.solve.specs.Rows.{allBelow}
 
 -- row r ends within m rows of s
 pub row-le : (r m s : ℕ) → r < m → r * s + s ≤ m * s
 row-le r m s h = subst (λ (n : ℕ). n ≤ m * s) (suc-mul r s) (mul-le-mul-right s h)
 
 module _ {A : Type 0} where
-  length-tabFrom : (i n : ℕ) (f : ℕ → A) → length (tabFrom i n f) ≡ n
-  unfolding tabFrom
-  length-tabFrom i zero f = refl
-  length-tabFrom i (suc n) f = ap suc (length-tabFrom (suc i) n f)
-
-  pub length-tab : (n : ℕ) (f : ℕ → A) → length (tab n f) ≡ n
-  unfolding tab
-  length-tab n f = length-tabFrom zero n f
-
-  getD-tabFrom : (i n : ℕ) (f : ℕ → A) (k : ℕ) (d : A) → k < n → getD (tabFrom i n f) k d ≡ f (i + k)
-  unfolding tabFrom
-  getD-tabFrom i zero f k d h = absurd (not-suc-le-zero h)
-  getD-tabFrom i (suc n) f zero d h = ap f (sym (add-zero i))
-  getD-tabFrom i (suc n) f (suc k) d h = getD-tabFrom (suc i) n f k d (le-of-suc-le-suc h) ∙ ap f (suc-add i k ∙ sym (add-suc i k))
-
-  pub getD-tab : (n : ℕ) (f : ℕ → A) (k : ℕ) (d : A) → k < n → getD (tab n f) k d ≡ f k
-  unfolding tab
-  getD-tab n f k d h = getD-tabFrom zero n f k d h ∙ ap f (zero-add k)
-
   pub length-cond : (b : Bool) (x y : List A) (n : ℕ) → length x ≡ n → length y ≡ n → length (cond b x y) ≡ n
   length-cond true x y n e f = e
   length-cond false x y n e f = f
@@ -99,17 +81,6 @@ pub allBelow-true : (n : ℕ) (p : ℕ → Bool) → ((i : ℕ) → i < n → p 
 unfolding allBelow
 allBelow-true zero p h = refl
 allBelow-true (suc n) p h = ap (λ (b : Bool). b && p n) (allBelow-true n p (λ i l. h i (omega arith))) ∙ h n (omega arith)
-
-pub no : {A : Type 0} → true ≡ false → A
-no h = absurd (true≢false h)
-
-pub and-left : (a b : Bool) → (a && b) ≡ true → a ≡ true
-and-left true b h = refl
-and-left false b h = h
-
-pub and-right : (a b : Bool) → (a && b) ≡ true → b ≡ true
-and-right true b h = h
-and-right false b h = no (sym h)
 
 pub allBelow-at : (n : ℕ) (p : ℕ → Bool) → allBelow n p ≡ true → (i : ℕ) → i < n → p i ≡ true
 unfolding allBelow

@@ -14,18 +14,19 @@ use Rattle.meaning.specs.Loops.{turns}
 use Rattle.meaning.specs.Table.{at1, at2}
 use Rattle.solve.specs.Rows.{allBelow, Shaped}
 use Rattle.solve.specs.Elimination.{better, bestAmong, lessBy, lessAt, subtracted, fineAt, reduced, reducedOk, rowAfter, reducedRows, rowFine, pivot, pivoted, columnDone, eliminated}
-use Rattle.solve.proofs.Lists.{blend, blend-next, blend-start, blend-get, length-tab, getD-tab, length-cond, allBelow-true, turns-next, turns-keep}
+use Rattle.meaning.proofs.Filling.{length-listed, nth-listed}
+use Rattle.solve.proofs.Lists.{blend, blend-next, blend-start, blend-get, length-cond, allBelow-true, turns-next, turns-keep}
 use Rattle.solve.proofs.Flat.{swapped-shaped}
 
 -- ---- a row t less f times the row p
 module _ {A : Type 0} (o : Ops A) (n col : ℕ) (f : A) (p t : List A) where
   pub sub-length : length (subtracted o n col f p t) ≡ length t
   unfolding subtracted
-  sub-length = length-tab (length t) (lessAt o n col f p t)
+  sub-length = length-listed 0 (length t) (lessAt o n col f p t)
 
   pub sub-at : (k : ℕ) (d : A) → k < length t → getD (subtracted o n col f p t) k d ≡ lessAt o n col f p t k
   unfolding subtracted
-  sub-at k d h = getD-tab (length t) (lessAt o n col f p t) k d h
+  sub-at k d h = nth-listed (length t) k (lessAt o n col f p t) d h
 
   pub sub-start : col ≤ length t → t ≡ blend col (subtracted o n col f p t) t
   unfolding lessAt
@@ -64,11 +65,11 @@ module _ {A : Type 0} (o : Ops A) (n col : ℕ) (p : List A) where
   module _ (m : ℕ) (M : List (List A)) where
     pub rows-length : length (reducedRows o m n col p M) ≡ m
     unfolding reducedRows
-    rows-length = length-tab m (rowAfter o n col p M)
+    rows-length = length-listed 0 m (rowAfter o n col p M)
 
     pub rows-at : (r : ℕ) → r < m → getD (reducedRows o m n col p M) r [] ≡ rowAfter o n col p M r
     unfolding reducedRows
-    rows-at r h = getD-tab m (rowAfter o n col p M) r [] h
+    rows-at r h = nth-listed m r (rowAfter o n col p M) [] h
 
     pub row-above : (r : ℕ) → r ≤ col → rowAfter o n col p M r ≡ getD M r []
     unfolding rowAfter

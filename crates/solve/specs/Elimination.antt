@@ -11,7 +11,8 @@ use Rattle.meaning.specs.Scalar.{Ops, zero64}
 use Rattle.meaning.specs.Number.{atLeast}
 use Rattle.meaning.specs.Loops.{turns}
 use Rattle.meaning.specs.Table.{at1, at2}
-use Rattle.solve.specs.Rows.{tab, allBelow, swapped}
+use Rattle.meaning.specs.Search.{listed}
+use Rattle.solve.specs.Rows.{allBelow, swapped}
 
 module _ {A : Type 0} (o : Ops A) where
   -- row r, if its number k is at least in size that of the best row so far
@@ -32,8 +33,8 @@ module _ {A : Type 0} (o : Ops A) where
   lessAt n col f p t k = cond (ltb k col) (at1 o t k) (lessBy (ltb k n) f (at1 o t k) (at1 o p k))
 
   unfoldable pub subtracted : ℕ → ℕ → A → List A → List A → List A
-  unfolding tab lessAt
-  subtracted n col f p t = tab (length t) (lessAt n col f p t)
+  unfolding listed lessAt
+  subtracted n col f p t = listed 0 (length t) (lessAt n col f p t)
 
   unfoldable pub fineAt : ℕ → ℕ → A → List A → List A → ℕ → Bool
   unfolding lessAt
@@ -60,8 +61,8 @@ module _ {A : Type 0} (o : Ops A) where
   rowAfter n col p M r = cond (leb r col) (getD M r []) (reduced n col p (getD M r []))
 
   unfoldable pub reducedRows : ℕ → ℕ → ℕ → List A → List (List A) → List (List A)
-  unfolding tab rowAfter
-  reducedRows m n col p M = tab m (rowAfter n col p M)
+  unfolding listed rowAfter
+  reducedRows m n col p M = listed 0 m (rowAfter n col p M)
 
   unfoldable pub rowFine : ℕ → ℕ → List A → List (List A) → ℕ → Bool
   unfolding reducedOk

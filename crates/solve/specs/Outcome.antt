@@ -8,7 +8,8 @@ use lib.Dec.{leb}
 use lib.Ieee.{Float}
 use Rattle.meaning.specs.Scalar.{Ops, plain, zero64}
 use Rattle.meaning.specs.Table.{at2}
-use Rattle.solve.specs.Rows.{tab, rowsOf}
+use Rattle.meaning.specs.Search.{listed}
+use Rattle.solve.specs.Rows.{rowsOf}
 use Rattle.solve.specs.Substitution.{solved, solvedOk}
 
 -- the two coordinates of the control points, 66 of each, and whether every number stored on the way was finite
@@ -24,8 +25,8 @@ module _ {A : Type 0} (o : Ops A) where
 
   -- column c of m rows, over the front of a list
   unfoldable pub column : ℕ → List (List A) → ℕ → List A → List A
-  unfolding tab
-  column m M c l = tab m (λ r. at2 o M r c) ++ drop m l
+  unfolding listed
+  column m M c l = listed 0 m (λ r. at2 o M r c) ++ drop m l
 
   abbrev pub noSolution : Solution A
   noSolution = record { xs = zeros; ys = zeros; fine = false }

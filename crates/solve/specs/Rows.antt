@@ -1,19 +1,9 @@
--- Lists made index by index, a test of every index, and rows of numbers: a list of lists, and the same laid one after the other in a buffer.
+-- A test of every index, and rows of numbers: a list of lists, and the same laid one after the other in a buffer.
 use mathlib.Core.Path.{_≡_}
 use mathlib.Core.Bool.{Bool, true, _&&_}
 use mathlib.Core.List.{List, [], _∷_, _++_}
 use Prim.Native.Nat.{ℕ, zero, suc, _<_}
 use lib.ListN.{length, take, drop, getD, set}
-
--- f i, f (i + 1) and so on, n of them
-unfoldable pub tabFrom : {A : Type 0} → ℕ → ℕ → (ℕ → A) → List A
-tabFrom i zero f = []
-tabFrom i (suc n) f = f i ∷ tabFrom (suc i) n f
-
--- f 0, .., f (n - 1)
-unfoldable pub tab : {A : Type 0} → ℕ → (ℕ → A) → List A
-unfolding tabFrom
-tab n f = tabFrom zero n f
 
 -- the test holds at every index below n
 unfoldable pub allBelow : ℕ → (ℕ → Bool) → Bool

@@ -17,7 +17,7 @@ fn reduce_rows(w: &mut [f64], p: &[f64], m: usize, n: usize, s: usize, col: usiz
     let mut fine = true;
     let first = col + 1;
     for r in first..m {
-        fine = work::both(fine, work::reduce_at(w, p, m, n, s, col, r));
+        fine = number::both(fine, work::reduce_at(w, p, m, n, s, col, r));
     }
     fine
 }
@@ -40,7 +40,7 @@ fn eliminate(w: &mut [f64], m: usize, s: usize) -> bool
 {
     let mut fine = true;
     for col in 0..m {
-        fine = work::both(fine, eliminate_column(w, m, s, col));
+        fine = number::both(fine, eliminate_column(w, m, s, col));
     }
     fine
 }
@@ -53,7 +53,7 @@ fn substitute(w: &mut [f64], m: usize, s: usize) -> bool
     let mut fine = true;
     for i in 0..m {
         let r = m - 1 - i;
-        fine = work::both(fine, work::answer_row(w, m, m, s, r, r, i));
+        fine = number::both(fine, work::answer_row(w, m, m, s, r, r, i));
     }
     fine
 }
@@ -66,5 +66,5 @@ pub(crate) fn solve_rows(w: &mut [f64], m: usize) -> bool
     let s = m + 2;
     let first = eliminate(w, m, s);
     let second = substitute(w, m, s);
-    work::both(first, second)
+    number::both(first, second)
 }

@@ -1,7 +1,6 @@
 // Rows in the work buffer: m rows of s numbers at the front of a slice, each n matrix numbers and then two right sides. A contract speaks of any
 // rows M that the slice holds and of the rest after them.
 ghost use mathlib.Core.Path.{_≡_};
-ghost use mathlib.Core.Bool.{_&&_, _||_};
 ghost use mathlib.Core.List.{[], _++_};
 ghost use Prim.Native.Nat.{_+_, _*_, _<_, _≤_};
 ghost use lib.ListN.{length, take, drop, getD, set, replicate};
@@ -10,20 +9,6 @@ ghost use Rattle.solve.specs.Rows.{flat, swapped, ofRows};
 ghost use Rattle.solve.specs.Elimination.{bestAmong, lessBy, subtracted, subtractedOk, reduced, reducedOk};
 ghost use Rattle.solve.specs.Substitution.{remains, answered, answeredOk};
 ghost use Rattle.solve.specs.Outcome.{column, zeros};
-
-// Whether both hold.
-pub(crate) fn both(a: bool, b: bool) -> bool
-    ensures { λ r. ⌜ r ≡ (a && b) ⌝ }
-{
-    if a { b } else { false }
-}
-
-// Whether one of the two holds.
-fn either(a: bool, b: bool) -> bool
-    ensures { λ r. ⌜ r ≡ (a || b) ⌝ }
-{
-    if a { true } else { b }
-}
 
 // A row, copied out.
 fn load_row(t: &[f64]) -> [f64; 68]
@@ -124,7 +109,7 @@ fn subtract_row(t: &mut [f64], p: &[f64], n: usize, col: usize, f: f64) -> bool
     for k in col..end {
         let v = less_by(k < n, f, t[k], p[k]);
         t[k] = v;
-        spoilt = either(spoilt, !number::is_finite(v));
+        spoilt = number::either(spoilt, !number::is_finite(v));
     }
     !spoilt
 }
@@ -141,7 +126,7 @@ pub(crate) fn reduce_row(t: &mut [f64], p: &[f64], n: usize, col: usize) -> bool
     }
     let f = x / p[col];
     let fine = subtract_row(t, p, n, col, f);
-    both(number::is_finite(f), fine)
+    number::both(number::is_finite(f), fine)
 }
 
 // Row r, reduced by the pivot row p.
@@ -194,7 +179,7 @@ pub(crate) fn answer_row(
     let y = remaining(w, m, s, r, n + 1, d, k) * inv;
     w[base + n] = x;
     w[base + (n + 1)] = y;
-    both(number::is_finite(x), number::is_finite(y))
+    number::both(number::is_finite(x), number::is_finite(y))
 }
 
 // Column c of the rows, +0.0 past them.

@@ -44,7 +44,7 @@ fn print_orders(a: &[f64; 8]) {
 // Writes the orders 0 to 3 of the curve at t.
 fn print_at(c: Curve, t: f64) {
     let mut out = [0.0; 8];
-    let r = curve::evaluate(c, t, 3, &mut out);
+    let r = point::evaluate(c, t, 3, &mut out);
     if r.number == 0 {
         print_orders(&out);
     } else {

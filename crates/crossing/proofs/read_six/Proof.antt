@@ -3,7 +3,7 @@ use Prim.Native.Nat.{_-_, _*_}
 use lib.ListN.{getD, set}
 use Rattle.meaning.specs.Loops.{turns}
 use Rattle.meaning.proofs.For.{At, first, next, last}
-use Rattle.knots.specs.Search.{listed}
+use Rattle.meaning.specs.Search.{listed}
 use Rattle.crossing.specs.Crossing.{readDv, readSix}
 use borrow.Author.Needs.{needs}
 use Rattle.crossing.proofs.read_six.Statement.{statement}

@@ -5,7 +5,7 @@ use native.Mathlib.Omega.{arith}
 use borrow.Author.Tests.{lt-ltb, le-ltb}
 use denote.Ref.{now}
 use lib.ListN.{length}
-use Rattle.knots.proofs.Searching.{told-some, told-none}
+use Rattle.meaning.proofs.Searching.{told-some, told-none}
 use Rattle.curve.proofs.Doors.{stop, pass, done, put-all}
 use borrow.Author.Needs.{needs}
 use Rattle.curve.proofs.answer_build.Statement.{statement}

@@ -5,7 +5,7 @@ use denote.Ref.{now}
 use Rattle.curve.specs.declared.Curve.{Curve}
 use Rattle.curve.specs.Record.{someWild}
 use Rattle.curve.specs.Build.{controlCurve}
-use Rattle.knots.proofs.Searching.{told-some, told-none}
+use Rattle.meaning.proofs.Searching.{told-some, told-none}
 use Rattle.curve.proofs.Assembled.{built-refused, built-made, control-refused, control-wild, control-tame}
 use borrow.Author.Needs.{needs}
 use Rattle.curve.proofs.build_control.Statement.{statement}

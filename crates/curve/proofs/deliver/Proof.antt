@@ -1,8 +1,11 @@
 -- `curve::deliver` meets its contract: there is room, each number is finite, and then they are put.
-use mathlib.Core.Path.{_∙_}
+use mathlib.Core.Path.{_≡_, _∙_}
+use mathlib.Core.Bool.{false}
 use borrow.Author.Tests.{lt-ltb, le-ltb}
 use denote.Ref.{now}
-use Rattle.knots.proofs.Searching.{told-some, told-none}
+use Rattle.meaning.proofs.Searching.{told-some, told-none}
+use Rattle.curve.specs.Record.{someWild}
+use Rattle.curve.proofs.Wild.{tame-long}
 use Rattle.curve.proofs.Doors.{stop, pass, done, put-all}
 use borrow.Author.Needs.{needs}
 use Rattle.curve.proofs.deliver.Statement.{statement}
@@ -28,9 +31,9 @@ returns-3 c =
     let w = c .before .before .before .before in
     let t = w .before .before in
     let a = t .before .before .before .args in
+    let tame : someWild (now (a .numbers)) (a .k) ≡ false = told-none _ 0 _ (w .before .first-wild .ensures) (w .if2 .left) in
     pass 14 (le-ltb _ _ (t .if1 .left))
-    (pass 15 (told-none _ 0 _ (w .before .first-wild .ensures) (w .if2 .left))
-    (done (c .before .before .put .ensures ∙ put-all (now (a .numbers)) (a .k) (now (a .out)) (t .before .before .before .pre) (t .if1 .left))))
+    (pass 15 tame (done (c .before .before .put .ensures ∙ put-all (now (a .numbers)) (a .k) (now (a .out)) (tame-long (now (a .numbers)) (a .k) tame) (t .if1 .left))))
 
 pub deliver-spec : {M : Type 1} → statement M
 deliver-spec =

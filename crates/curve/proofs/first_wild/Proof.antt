@@ -1,22 +1,16 @@
 -- `curve::first_wild` meets its contract: each number passed is finite, and past the end of the list there is none.
-use mathlib.Core.Path.{_≡_, _∙_, sym, ap}
-use mathlib.Core.Bool.{true, not}
-use mathlib.Core.List.{List}
-use Prim.Native.Nat.{ℕ, _-_, _≤_}
-use lib.ListN.{length, List·getD-eq-default}
-use lib.Ieee.{Float, nan}
+use mathlib.Core.Path.{_∙_, sym, ap}
+use mathlib.Core.Bool.{not}
+use Prim.Native.Nat.{_-_}
 use denote.Ref.{now}
 use lib.Ieee.Scale.{finite}
 use Rattle.meaning.specs.Scalar.{plain}
 use Rattle.meaning.specs.Table.{at1}
-use Rattle.knots.proofs.Searching.{Passed, passed, onward, found, ended}
+use Rattle.meaning.proofs.Searching.{Passed, passed, onward, found, ended}
+use Rattle.curve.proofs.Wild.{past}
 use borrow.Author.Needs.{needs}
 use Rattle.curve.proofs.first_wild.Statement.{statement}
 use Rattle.curve.proofs.first_wild.Tie as tie
-
-past : (a : List Float) (i : ℕ) → length a ≤ i → not (finite (at1 plain a i)) ≡ true
-unfolding finite
-past a i h = ap (λ (x : Float). not (finite x)) (List·getD-eq-default a nan h)
 
 abbrev Inv-loop : tie.InvT-loop
 Inv-loop a k i₀ i = Passed (λ j. not (finite (at1 plain a j))) 0 k i

@@ -2,7 +2,7 @@
 use mathlib.Core.Path.{sym, _∙_}
 use Prim.Native.Nat.{_≤_}
 use native.Mathlib.Omega.{arith}
-use Rattle.knots.proofs.Searching.{told-some, told-none}
+use Rattle.meaning.proofs.Searching.{told-some, told-none}
 use Rattle.curve.proofs.Trusted.{counted, knots-refused, wild-xs, wild-ys, all-tame}
 use borrow.Author.Needs.{needs}
 use Rattle.curve.proofs.recheck.Statement.{statement}

@@ -1,7 +1,7 @@
 -- `curve::refused_handles` meets its contract.
 use mathlib.Core.Path.{sym, _∙_}
 use denote.Ref.{now}
-use Rattle.knots.proofs.Searching.{told-some, told-none}
+use Rattle.meaning.proofs.Searching.{told-some, told-none}
 use Rattle.curve.proofs.Assembled.{odd-handles, knots-refused-handles, wild-handles, tame-handles}
 use borrow.Author.Needs.{needs}
 use Rattle.curve.proofs.refused_handles.Statement.{statement}

@@ -5,7 +5,7 @@ use denote.Ref.{now}
 use mathlib.Core.List.{_++_}
 use Rattle.curve.specs.Record.{shapeOf, recordRules}
 use Rattle.curve.specs.Answer.{Answer}
-use Rattle.curve.specs.Evaluate.{pointOrders, numbersFor, pointRules}
+use Rattle.point.specs.Evaluate.{pointOrders, numbersFor, pointRules}
 use Rattle.demand3.proofs.Promised.{in-hull, never-refused}
 use borrow.Author.Needs.{needs}
 use Rattle.demand3.proofs.evaluate.Statement.{statement}

@@ -5,7 +5,7 @@ use native.Mathlib.Omega.{arith}
 use lib.Ieee.{nan}
 use lib.Ieee.Scale.{finite}
 use Rattle.meaning.specs.Scalar.{plain}
-use Rattle.knots.proofs.Filling.{Filled, empty, filled, full}
+use Rattle.meaning.proofs.Filling.{Filled, empty, filled, full}
 use Rattle.plane.specs.View.{view}
 use Rattle.solve.specs.Rows.{allBelow}
 use Rattle.solve.proofs.Lists.{allBelow-none, allBelow-next}

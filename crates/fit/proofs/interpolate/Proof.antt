@@ -1,13 +1,13 @@
 -- `fit::interpolate` meets its contract: the buffer holds the definition's system, and the verdicts are its verdicts.
-use mathlib.Core.Path.{_≡_, refl, sym, _∙_}
-use mathlib.Core.Bool.{Bool, true, false, not}
+use mathlib.Core.Path.{_∙_}
 use mathlib.Core.List.{List}
 use Prim.Native.Nat.{_≤_}
 use native.Mathlib.Omega.{arith}
+use borrow.Author.Tests.{not-true, not-false}
 use denote.Ref.{now}
 use lib.ListN.{length}
 use lib.Ieee.{Float}
-use Rattle.knots.proofs.Searching.{told-some, told-none}
+use Rattle.meaning.proofs.Searching.{told-some, told-none}
 use Rattle.fit.specs.Fit.{pointsIn, workFor}
 use Rattle.fit.proofs.Rows.{found-shaped}
 use Rattle.fit.proofs.Through.{solve-filled, work-filled, knots-are, wild-knots, solution-is, wild-rows, wild-solution, all-fine, answer-15, answer-curve}
@@ -27,15 +27,6 @@ few c = c .before .before .before .before .before .before .before .before .befor
 
 room : (c : tie.After-slice-known3) → workFor (points c) ≤ length (now (c .before .before .before .before .before .before .before .before .before .before .before .before .before .before .before .before .before .args .work))
 room c = c .before .before .before .before .before .before .before .before .before .before .before .before .before .before .before .before .before .pre .2
-
--- a verdict from the test of its contrary
-off : (b : Bool) → not b ≡ true → b ≡ false
-off false h = refl
-off true h = sym h
-
-on : (b : Bool) → not b ≡ false → b ≡ true
-on true h = refl
-on false h = sym h
 
 add-m : tie.Need-add-m
 add-m c = search needs
@@ -91,7 +82,7 @@ returns-2 c =
     (told-none _ 0 70 (t .before .first-wild .ensures) (t .if1 .left)) _ _ (w .before .before .before .before .before .before .fill .ensures .judged)
     (w .before .before .solve .ensures .0
     ∙ solve-filled _ _ _ _ _ _ (omega arith) (omega (arith, few w)) (room w) (omega (arith, w .before .before .before .before .before .before .fill .kept)) (w .before .before .before .before .before .before .fill .ensures) (found-shaped _ _ _ _))
-    (off _ (c .before .if2 .taken)))
+    (not-true _ (c .before .if2 .taken)))
     (w .before .before .solve .ensures .1
     ∙ work-filled _ _ _ _ _ _ (omega arith) (omega (arith, few w)) (room w) (omega (arith, w .before .before .before .before .before .before .fill .kept)) (w .before .before .before .before .before .before .fill .ensures) (found-shaped _ _ _ _))
 
@@ -111,7 +102,7 @@ returns-3 c =
     (told-none _ 0 70 (t .before .first-wild .ensures) (t .if1 .left)) _ _ (w .before .before .before .before .before .before .fill .ensures .judged)
     (w .before .before .solve .ensures .0
     ∙ solve-filled _ _ _ _ _ _ (omega arith) (omega (arith, few w)) (room w) (omega (arith, w .before .before .before .before .before .before .fill .kept)) (w .before .before .before .before .before .before .fill .ensures) (found-shaped _ _ _ _))
-    (on _ (s .if2 .left)) (off _ (c .before .if3 .taken)))
+    (not-false _ (s .if2 .left)) (not-true _ (c .before .if3 .taken)))
     (w .before .before .solve .ensures .1
     ∙ work-filled _ _ _ _ _ _ (omega arith) (omega (arith, few w)) (room w) (omega (arith, w .before .before .before .before .before .before .fill .kept)) (w .before .before .before .before .before .before .fill .ensures) (found-shaped _ _ _ _))
 
@@ -137,7 +128,7 @@ returns-4 c =
     (told-none _ 0 70 (t .before .first-wild .ensures) (t .if1 .left)) _ _ (w .before .before .before .before .before .before .fill .ensures .judged)
     (w .before .before .solve .ensures .0
     ∙ solve-filled _ _ _ _ _ _ (omega arith) (omega (arith, few w)) (room w) (omega (arith, w .before .before .before .before .before .before .fill .kept)) (w .before .before .before .before .before .before .fill .ensures) (found-shaped _ _ _ _))
-    (on _ (s .if2 .left)) (on _ (g .if3 .left)))
+    (not-false _ (s .if2 .left)) (not-false _ (g .if3 .left)))
     (w .before .before .solve .ensures .1
     ∙ work-filled _ _ _ _ _ _ (omega arith) (omega (arith, few w)) (room w) (omega (arith, w .before .before .before .before .before .before .fill .kept)) (w .before .before .before .before .before .before .fill .ensures) (found-shaped _ _ _ _))
 

@@ -4,7 +4,7 @@ use Prim.Native.Nat.{_-_}
 use lib.Ieee.{nan}
 use Rattle.meaning.specs.Scalar.{plain}
 use Rattle.meaning.specs.Table.{at1}
-use Rattle.knots.proofs.Filling.{Filled, empty, filled, full}
+use Rattle.meaning.proofs.Filling.{Filled, empty, filled, full}
 use Rattle.fit.specs.Parameters.{knotAt, knotsBy}
 use borrow.Author.Needs.{needs}
 use Rattle.fit.proofs.knots_by.Statement.{statement}

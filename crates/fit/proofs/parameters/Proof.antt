@@ -5,7 +5,7 @@ use native.Mathlib.Omega.{arith}
 use lib.Ieee.{nan}
 use Rattle.meaning.specs.Scalar.{plain}
 use Rattle.meaning.specs.Table.{at1}
-use Rattle.knots.proofs.Filling.{Filled, filled}
+use Rattle.meaning.proofs.Filling.{Filled, filled}
 use Rattle.fit.specs.Parameters.{sumOf, parameterAt}
 use Rattle.fit.proofs.Sums.{sum-none, sum-turn, parameter-inner, parameter-last, parameters-begin}
 use denote.Ref.{now}

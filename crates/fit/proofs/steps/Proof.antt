@@ -4,7 +4,7 @@ use mathlib.Core.Path.{refl, _≡_}
 use native.Mathlib.Omega.{arith}
 use lib.Ieee.{nan}
 use Rattle.meaning.specs.Scalar.{plain}
-use Rattle.knots.proofs.Filling.{Filled, empty, filled}
+use Rattle.meaning.proofs.Filling.{Filled, empty, filled}
 use Rattle.fit.specs.Parameters.{stepAt}
 use borrow.Author.Needs.{needs}
 use Rattle.fit.proofs.steps.Statement.{statement}

@@ -2,7 +2,7 @@
 use borrow.Author.Needs.{needs}
 use Prim.Native.Nat.{_-_}
 use Rattle.knots.specs.Repeat.{repeats}
-use Rattle.knots.proofs.Searching.{Passed, passed, onward, found, ended}
+use Rattle.meaning.proofs.Searching.{Passed, passed, onward, found, ended}
 use Rattle.knots.proofs.first_repeat.Statement.{statement}
 use Rattle.knots.proofs.first_repeat.Tie as tie
 

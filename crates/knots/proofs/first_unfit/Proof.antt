@@ -4,7 +4,7 @@ use mathlib.Core.Path.{_≡_, sym, _∙_}
 use Prim.Native.Nat.{_-_, zero-le}
 use lib.ListN.{length}
 use Rattle.knots.specs.Rules.{unfit}
-use Rattle.knots.proofs.Searching.{Passed, passed, onward, found, ended}
+use Rattle.meaning.proofs.Searching.{Passed, passed, onward, found, ended}
 use Rattle.knots.proofs.first_unfit.Statement.{statement}
 use Rattle.knots.proofs.first_unfit.Tie as tie
 

@@ -2,7 +2,7 @@
 use borrow.Author.Needs.{needs}
 use Prim.Native.Nat.{_-_}
 use Rattle.knots.specs.Rules.{unlike}
-use Rattle.knots.proofs.Searching.{Passed, passed, onward, found, ended}
+use Rattle.meaning.proofs.Searching.{Passed, passed, onward, found, ended}
 use Rattle.knots.proofs.first_unlike.Statement.{statement}
 use Rattle.knots.proofs.first_unlike.Tie as tie
 

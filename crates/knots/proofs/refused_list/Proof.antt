@@ -3,7 +3,7 @@ use borrow.Author.Needs.{needs}
 use denote.Ref.{now}
 use lib.ListN.{length}
 use Rattle.knots.specs.Rules.{unfit}
-use Rattle.knots.proofs.Searching.{told-some, told-none}
+use Rattle.meaning.proofs.Searching.{told-some, told-none}
 use Rattle.knots.proofs.Refused.{wrong-count, one-unfit}
 use Rattle.knots.proofs.refused_list.Statement.{statement}
 use Rattle.knots.proofs.refused_list.Tie as tie

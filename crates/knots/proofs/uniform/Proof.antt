@@ -5,7 +5,7 @@ use Prim.Native.Nat.{_-_}
 use borrow.Author.Tests.{le-leb, lt-leb}
 use lib.Ieee.{nan}
 use Rattle.knots.specs.Uniform.{uniformAt, uniformOf}
-use Rattle.knots.proofs.Filling.{listed-same, Filled, empty, filled, full}
+use Rattle.meaning.proofs.Filling.{listed-same, Filled, empty, filled, full}
 use Rattle.knots.proofs.uniform.Statement.{statement}
 use Rattle.knots.proofs.uniform.Tie as tie
 

@@ -1,9 +1,9 @@
 -- `sheet_read::digits` meets its contract: each byte passed is a digit.
 use borrow.Author.Needs.{needs}
-use mathlib.Core.Path.{_≡_, sym, ap, _∙_}
-use mathlib.Core.Bool.{Bool, not}
-use Prim.Native.Nat.{ℕ, _+_, _-_}
-use Rattle.knots.proofs.Searching.{Passed, passed, onward, found, ended}
+use mathlib.Core.Path.{sym, ap, _∙_}
+use mathlib.Core.Bool.{not}
+use Prim.Native.Nat.{_+_, _-_}
+use Rattle.meaning.proofs.Searching.{Passed, passed, onward, found, ended}
 use Rattle.sheet_read.specs.Text.{byteAt}
 use Rattle.sheet_read.specs.Number.{isDecimal, digitsAt}
 use Rattle.sheet_read.proofs.digits.Statement.{statement}

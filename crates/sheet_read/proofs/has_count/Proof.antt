@@ -1,15 +1,9 @@
 -- `sheet_read::has_count` meets its contract: the tests are those of `countStands`, in its order.
 use borrow.Author.Needs.{needs}
-use mathlib.Core.Path.{sym, _∙_}
 use native.Mathlib.Omega.{arith}
-use borrow.Author.Tests.{not-true, not-false, le-leb, lt-leb}
-use Rattle.sheet_read.specs.Number.{countStands}
-use Rattle.sheet_read.proofs.Numerals.{few-digits}
-use mathlib.Core.Path.{_≡_, sym, _∙_}
-use Prim.Native.Nat.{_≤_}
-use denote.Ref.{now}
 use borrow.Author.Tests.{not-true, not-false}
 use Rattle.sheet_read.proofs.Numerals.{few-digits, no-count, led-by-zero, too-many, line-ends}
+use Prim.Native.Nat.{_≤_}
 use Rattle.sheet_read.proofs.has_count.Statement.{statement}
 use Rattle.sheet_read.proofs.has_count.Tie as tie
 

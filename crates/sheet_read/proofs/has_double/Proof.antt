@@ -1,10 +1,8 @@
 -- `sheet_read::has_double` meets its contract: each byte passed is a digit.
 use borrow.Author.Needs.{needs}
-use mathlib.Core.Path.{_≡_, sym, ap, _∙_}
-use mathlib.Core.Bool.{not}
+use mathlib.Core.Path.{sym, ap, _∙_}
 use Prim.Native.Nat.{_+_, _-_}
 use borrow.Author.Tests.{not-true, not-false}
-use lib.Dec.{eqb}
 use Rattle.sheet_read.specs.Text.{byteAt}
 use Rattle.sheet_read.specs.Number.{isHex, doubleStands}
 use Rattle.sheet_read.proofs.Every.{Holds, start, on, fails, holds}

@@ -1,7 +1,7 @@
 -- `sheet_read::has_numbers` meets its contract: each number passed stands in its place.
 use borrow.Author.Needs.{needs}
-use mathlib.Core.Path.{_≡_, sym, ap, _∙_}
-use Prim.Native.Nat.{ℕ, _-_}
+use mathlib.Core.Path.{_≡_, sym, _∙_}
+use Prim.Native.Nat.{_-_}
 use borrow.Author.Tests.{not-true, not-false}
 use Rattle.sheet_read.specs.Number.{doubleStands}
 use Rattle.sheet_read.specs.Grammar.{byteAfter, numberPlace, numbersStand}

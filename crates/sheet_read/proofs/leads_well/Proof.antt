@@ -1,7 +1,5 @@
 -- `sheet_read::leads_well` meets its contract.
 use borrow.Author.Needs.{needs}
-use mathlib.Core.Path.{ap}
-use mathlib.Core.Bool.{not}
 use borrow.Author.Tests.{eq-eqb, ne-eqb}
 use Rattle.sheet_read.proofs.leads_well.Statement.{statement}
 use Rattle.sheet_read.proofs.leads_well.Tie as tie

@@ -1,5 +1,4 @@
 -- `sheet_read::lies_within` meets its contract.
-use borrow.Author.Needs.{needs}
 use borrow.Author.Tests.{le-leb, lt-leb}
 use Rattle.sheet_read.proofs.lies_within.Statement.{statement}
 use Rattle.sheet_read.proofs.lies_within.Tie as tie

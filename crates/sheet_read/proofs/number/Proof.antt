@@ -1,7 +1,6 @@
 -- `sheet_read::number` meets its contract: i digits write a number below 16 ^ i.
 use borrow.Author.Needs.{needs}
-use mathlib.Core.Path.{_≡_, sym, ap, _∙_}
-use Prim.Native.Nat.{ℕ, _+_, _-_, _*_, _^_, _<_}
+use Prim.Native.Nat.{_+_, _-_, _*_, _^_, _<_}
 use native.Mathlib.Omega.{arith}
 use Rattle.meaning.proofs.For.{At, first, next, last}
 use Rattle.sheet_read.specs.Text.{byteAt}

@@ -1,11 +1,11 @@
 -- `sheet_read::of_bits` meets its contract: a NaN's pattern is one that lies above the infinity's, but for the sign.
 use borrow.Author.Needs.{needs}
-use mathlib.Core.Path.{_≡_, refl, sym, ap, _∙_, subst}
-use mathlib.Core.Bool.{Bool, true, false, not}
+use mathlib.Core.Path.{_≡_, refl, sym, _∙_, subst}
+use mathlib.Core.Bool.{Bool, true, not}
 use borrow.Author.Tests.{lt-ltb, le-ltb}
 use lib.Dec.{T}
-use lib.Ieee.{Float, nan, inf, fin, binary64, isNan, ofBits, div, nanBits}
-use Rattle.knots.proofs.Tests.{no}
+use lib.Ieee.{Float, nan, inf, fin, binary64, isNan, ofBits, div}
+use Rattle.meaning.proofs.Tests.{no}
 use lib.Ieee.Bits.{nanBits-is, nanBits-above}
 use Rattle.sheet_read.proofs.of_bits.Statement.{statement}
 use Rattle.sheet_read.proofs.of_bits.Tie as tie

@@ -1,10 +1,9 @@
 -- `sheet_read::read_section` meets its contract: the tests are those of `sectionAt`, in its order.
 use borrow.Author.Needs.{needs}
-use mathlib.Core.Path.{_≡_, sym, _∙_}
+use mathlib.Core.Path.{sym, _∙_}
 use Prim.Native.Nat.{_*_, _≤_}
 use native.Mathlib.Nat.{le-trans}
 use native.Mathlib.Omega.{arith}
-use denote.Ref.{now}
 use borrow.Author.Tests.{not-true, not-false}
 use Rattle.sheet_read.proofs.Numerals.{few-digits}
 use Rattle.sheet_read.proofs.Sections.{no-word, no-count, no-numbers, whole, few-numbers}

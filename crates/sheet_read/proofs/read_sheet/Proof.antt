@@ -1,18 +1,12 @@
 -- `sheet_read::read_sheet` meets its contract: section after section, each where the one before ends.
 use borrow.Author.Needs.{needs}
-use mathlib.Core.Path.{_≡_, sym, ap, _∙_}
-use mathlib.Core.Bool.{Bool, cond}
-use Prim.Native.Nat.{ℕ, _+_, _*_, _≤_}
-use native.Mathlib.Nat.{le-trans}
-use native.Mathlib.Omega.{arith}
-use denote.Ref.{now}
-use Rattle.sheet_read.specs.Grammar.{sheetOf}
-use Rattle.sheet_read.proofs.Sections.{reach}
-use mathlib.Core.Path.{_≡_, ap, _∙_}
+use mathlib.Core.Path.{ap, _∙_}
 use mathlib.Core.Bool.{Bool, _||_}
 use Prim.Native.Nat.{_≤_}
-use Rattle.sheet_read.specs.Text.{text}
+use native.Mathlib.Nat.{le-trans}
+use native.Mathlib.Omega.{arith}
 use Rattle.sheet_read.proofs.Sections.{reach, first-line, assembled}
+use Rattle.sheet_read.specs.Text.{text}
 use Rattle.sheet_read.proofs.read_sheet.Statement.{statement}
 use Rattle.sheet_read.proofs.read_sheet.Tie as tie
 

@@ -1,9 +1,8 @@
 -- `sheet_text::answer` meets its contract.
 use borrow.Author.Needs.{needs}
-use mathlib.Core.Path.{_≡_, sym, ap, _∙_, subst}
+use mathlib.Core.Path.{sym, ap, _∙_, subst}
 use native.Mathlib.Omega.{arith}
 use borrow.Author.Tests.{not-true, not-false}
-use denote.Ref.{now}
 use Rattle.sheet_read.specs.declared.Sheet.{Sheet}
 use Rattle.sheet_read.proofs.Sections.{Limits, limits}
 use Rattle.sheet_text.proofs.Sheets.{no-room, malformed, well-formed}

@@ -1,10 +1,8 @@
 -- `sheet_text::answer_sheet` meets its contract: the numbers of the sheet are read, built and printed.
 use borrow.Author.Needs.{needs}
-use mathlib.Core.Path.{_≡_, sym, ap, _∙_}
-use mathlib.Core.List.{List}
+use mathlib.Core.Path.{sym, ap, _∙_}
 use native.Mathlib.Omega.{arith}
 use lib.ListN.{length}
-use Rattle.sheet_text.specs.Answer.{sheetText}
 use Rattle.sheet_text.proofs.Front.{numbers-long}
 use Rattle.sheet_text.proofs.Sheets.{text-built, work-built}
 use denote.Ref.{now}

@@ -1,11 +1,11 @@
 -- `sheet_text::bits_of` meets its contract: what does not equal itself is the one NaN.
 use borrow.Author.Needs.{needs}
-use mathlib.Core.Path.{_≡_, refl, sym, subst, ap}
-use mathlib.Core.Bool.{true, false, not}
+use mathlib.Core.Path.{_≡_, sym, subst, ap}
+use mathlib.Core.Bool.{false, not}
 use lib.Dec.{T}
 use lib.Ieee.{Float, nan, inf, fin, binary64, eq, ne, isNan, toBits}
 use lib.Ieee.Compare.{differs-from-itself}
-use Rattle.knots.proofs.Tests.{no}
+use Rattle.meaning.proofs.Tests.{no}
 use Rattle.sheet_text.proofs.bits_of.Statement.{statement}
 use Rattle.sheet_text.proofs.bits_of.Tie as tie
 

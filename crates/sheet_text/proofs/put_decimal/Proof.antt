@@ -1,9 +1,5 @@
 -- `sheet_text::put_decimal` meets its contract: one digit or two.
 use borrow.Author.Needs.{needs}
-use mathlib.Core.Path.{_≡_, sym, subst}
-use mathlib.Core.List.{List, [], _∷_}
-use Prim.Native.Nat.{ℕ}
-use Rattle.sheet_text.specs.Printed.{Put}
 use Rattle.sheet_text.proofs.Putting.{one-digit, two-digits}
 use Rattle.sheet_text.proofs.put_decimal.Statement.{statement}
 use Rattle.sheet_text.proofs.put_decimal.Tie as tie

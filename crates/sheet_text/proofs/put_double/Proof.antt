@@ -1,8 +1,6 @@
 -- `sheet_text::put_double` meets its contract: the digits follow the word.
 use borrow.Author.Needs.{needs}
-use mathlib.Core.Path.{_≡_, ap, _∙_, subst}
-use mathlib.Core.List.{List}
-use Prim.Native.Nat.{ℕ}
+use mathlib.Core.Path.{ap, _∙_}
 use Rattle.sheet_text.specs.Printed.{doubleText, hexText}
 use Rattle.sheet_text.proofs.Putting.{joined}
 use Rattle.sheet_text.proofs.put_double.Statement.{statement}

@@ -1,7 +1,5 @@
 -- `sheet_text::put_line` meets its contract: the point, or the refusal of the evaluation.
 use borrow.Author.Needs.{needs}
-use mathlib.Core.Path.{_≡_, sym}
-use native.Mathlib.Omega.{arith}
 use Rattle.sheet_text.proofs.Lines.{line-refused, line-point}
 use Rattle.sheet_text.proofs.put_line.Statement.{statement}
 use Rattle.sheet_text.proofs.put_line.Tie as tie

@@ -1,10 +1,9 @@
 -- `sheet_text::put_lines` meets its contract: a turn prints one line.
 use borrow.Author.Needs.{needs}
-use mathlib.Core.Path.{_≡_, sym, _∙_}
+use mathlib.Core.Path.{_∙_}
 use Prim.Native.Nat.{_-_, _≤_}
 use native.Mathlib.Omega.{arith}
 use denote.Ref.{now}
-use lib.ListN.{length}
 use Rattle.sheet_read.specs.Grammar.{numbersAt}
 use Rattle.sheet_text.proofs.Front.{numbers-long, number-is}
 use Rattle.sheet_text.proofs.Lines.{Printed, printed-first, printed-next, printed-all}

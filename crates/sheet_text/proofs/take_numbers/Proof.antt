@@ -1,11 +1,11 @@
 -- `sheet_text::take_numbers` meets its contract: a turn puts in one number.
 use borrow.Author.Needs.{needs}
-use mathlib.Core.Path.{_≡_, refl, sym}
-use Prim.Native.Nat.{ℕ, _-_, _≤_}
+use mathlib.Core.Path.{_≡_, refl}
+use Prim.Native.Nat.{_-_, _≤_}
 use native.Mathlib.Omega.{arith}
 use lib.ListN.{length}
 use lib.Ieee.{nan}
-use Rattle.knots.proofs.Filling.{Filled, empty, filled}
+use Rattle.meaning.proofs.Filling.{Filled, empty, filled}
 use Rattle.sheet_read.specs.Number.{doubleAt}
 use Rattle.sheet_read.specs.Grammar.{numberPlace, numbersAt}
 use Rattle.sheet_text.proofs.Front.{front}

@@ -1,7 +1,7 @@
 -- `unfused::print_double` is safe: what equals itself is no NaN. Assumes nothing.
 use borrow.Author.Needs.{needs}
-use mathlib.Core.Path.{_≡_, sym, subst}
-use mathlib.Core.Bool.{Bool, true, not}
+use mathlib.Core.Path.{sym, subst}
+use mathlib.Core.Bool.{not}
 use lib.Dec.{T}
 use lib.Ieee.{Float, nan, inf, fin, eq, isNan}
 use Rattle.unfused.proofs.print_double.Statement.{statement}

@@ -1,0 +1,31 @@
+-- A test is true or false, and what follows from two joined. Assumes nothing.
+use mathlib.Core.Path.{_≡_, refl, sym}
+use mathlib.Core.Bool.{Bool, true, false, _&&_, _||_, true≢false}
+
+pub no : {A : Type 0} → false ≡ true → A
+no h = absurd (true≢false (sym h))
+
+-- a test that cannot be true
+pub refuted : (b : Bool) → (b ≡ true → ⊥) → b ≡ false
+refuted true h = absurd (h refl)
+refuted false h = refl
+
+pub by-two : (b : Bool) {A : Type 0} → (b ≡ true → A) → (b ≡ false → A) → A
+by-two true h g = h refl
+by-two false h g = g refl
+
+pub and-left : (a b : Bool) → a && b ≡ true → a ≡ true
+and-left true b h = refl
+and-left false b h = h
+
+pub and-right : (a b : Bool) → a && b ≡ true → b ≡ true
+and-right true b h = h
+and-right false b h = no h
+
+pub or-left : (a b : Bool) → a || b ≡ false → a ≡ false
+or-left true b h = h
+or-left false b h = refl
+
+pub or-right : (a b : Bool) → a || b ≡ false → b ≡ false
+or-right true b h = no (sym h)
+or-right false b h = h

@@ -1,0 +1,3 @@
+-- The polygon's length, the domain and the samples.
+pub mod Length
+pub mod Samples

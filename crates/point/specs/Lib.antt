@@ -1,0 +1,2 @@
+-- The point, its derivatives and the unit tangent at a parameter.
+pub mod Evaluate

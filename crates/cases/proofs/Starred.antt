@@ -15,7 +15,7 @@ use Rattle.meaning.specs.Refusals.{firstOf}
 use Rattle.meaning.specs.Number.{smaller}
 use Rattle.partials.specs.declared.Dv.{Dv}
 use Rattle.partials.specs.Dual.{dual, partials, zipDv, mapDv, cstDv, varDv, divDv, rootDv}
-use Rattle.meaning.specs.Search.{seekFrom, listed}
+use Rattle.meaning.specs.Search.{seekFrom, listed, every}
 use Rattle.knots.specs.Rules.{count, knotRules}
 use Rattle.knots.specs.Uniform.{uniformAt, uniformOf}
 use Rattle.knots.specs.Span.{spanOf}
@@ -23,7 +23,6 @@ use Rattle.basis.specs.Triangle.{columnTurn, columnOf, sidesTurn, triangleOf}
 use Rattle.basis.specs.Derivatives.{firstCoef, midTurn, midCoefs, lastCoef, orderOf}
 use Rattle.basis.specs.Basis.{valuesOf, orderTurn, functionOf, functionsOf, scaledRow, scaleTurn, scaled, derivativesOf, basisOf}
 use Rattle.evaluate.specs.Point.{Shape, weighted, placed, insideOf, beyondOf, orderAt, ordersOf}
-use Rattle.solve.specs.Rows.{allBelow}
 use Rattle.solve.specs.Outcome.{solutionOf}
 use Rattle.point.specs.Evaluate.{pointOrders}
 use Rattle.measure.specs.Samples.{samplesOf}
@@ -152,7 +151,7 @@ unfolding two-points knotsBy knotAt parameterAt listed seekFrom ofBits
 knots-fine = refl
 
 rows-fine : rowsOk plain 4 (rowThrough two-points) ≡ true
-unfolding two-points rowsOk rowOk allBelow neg ofInt round
+unfolding two-points rowsOk rowOk every neg ofInt round
 rows-fine =
     (λ i. rowOk plain 4 (row-0 i) && rowOk plain 4 (row-1 i) && rowOk plain 4 (row-2 i) && rowOk plain 4 (row-3 i)) ∙ refl
 

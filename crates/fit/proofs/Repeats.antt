@@ -14,7 +14,8 @@ use Rattle.solve.specs.Substitution.{solvedOk}
 use Rattle.solve_laws.proofs.Twins.{twins-refused}
 use Rattle.fit.specs.Parameters.{pointAt}
 use Rattle.fit.specs.System.{withSides, rowAt, rowOf, fitRow, fitRows}
-use Rattle.fit.proofs.Rows.{listed-at, fit-row-at, fit-rows-shaped}
+use Rattle.meaning.proofs.Filling.{nth-listed}
+use Rattle.fit.proofs.Rows.{fit-row-at, fit-rows-shaped}
 use Rattle.fit.proofs.Doubles.{row-double}
 use Rattle.fit.proofs.Rising.{Repeat}
 
@@ -22,7 +23,7 @@ module _ {A : Type 0} (o : Ops A) (sp : Float → ℕ) (us : List A) where
   -- a matrix number of a row
   row-at : (m : ℕ) (t : A) (d : ℕ) (b : Vector A) (j : ℕ) → j < m → at1 o (rowOf o sp us m t d b) j ≡ rowAt o sp us t d j
   unfolding rowOf withSides
-  row-at m t d b j h = listed-at (m + 2) j (withSides o m (rowAt o sp us t d) b) (o .off) (omega arith) ∙ rw (lt-ltb j m h)
+  row-at m t d b j h = nth-listed (m + 2) j (withSides o m (rowAt o sp us t d) b) (o .off) (omega arith) ∙ rw (lt-ltb j m h)
 
   module _ (p : ℕ → A) (q : List A) (n k : ℕ) (h : k < n) where
     -- the row that reads parameter k

@@ -29,7 +29,7 @@ use Rattle.curve.proofs.Wild.{each-finite}
 use Rattle.fit.specs.Parameters.{stepAt, sumOf, parameterAt, knotAt, knotsBy, fitParameter, fitKnots}
 use Rattle.fit.proofs.Plus.{plus, root-plus, add-plus, div-plus, zero-least, sum-not-below, finite-over, over-no-nan, over-in-order, over-at-most-one, equal-same}
 use Rattle.fit.proofs.Sums.{sum-none, sum-turn, parameter-inner, parameter-last}
-use Rattle.fit.proofs.Rows.{listed-at}
+use Rattle.meaning.proofs.Filling.{nth-listed}
 
 -- every one of n parameters is below the next
 abbrev pub Rising : (ℕ → Float) → ℕ → Type 0
@@ -164,7 +164,7 @@ module _ (st : ℕ → Float) (P : (i : ℕ) → T (plus (st i))) where
 
     knot-is : (j : ℕ) → j < 70 → knot us j ≡ knotAt plain u n j
     unfolding knotsBy
-    knot-is j l = listed-at 70 j (knotAt plain u n) nan l
+    knot-is j l = nth-listed 70 j (knotAt plain u n) nan l
 
     module _ (room : n ≤ 64) where
       pub knot-front : (j : ℕ) → j < 4 → knot us j ≡ zero64

@@ -3,7 +3,6 @@ use mathlib.Core.Path.{_≡_, refl, sym, ap, _∙_, subst}
 use mathlib.Core.Bool.{Bool, _&&_, cond}
 use mathlib.Core.List.{List, []}
 use Prim.Native.Nat.{ℕ, zero, suc, _+_, _-_, _≤_, _<_}
-use native.Mathlib.Nat.{zero-add}
 use native.Mathlib.Omega.{arith}
 use lib.Dec.{leb, eqb}
 use borrow.Author.Tests.{leb-true}
@@ -11,10 +10,10 @@ use lib.ListN.{length, getD, set}
 use lib.Ieee.{Float}
 use Rattle.meaning.specs.Scalar.{Ops, plain, zero64, one64}
 use Rattle.meaning.specs.Table.{at1}
-use Rattle.meaning.specs.Search.{listed}
+use Rattle.meaning.specs.Search.{listed, every}
 use Rattle.knots.specs.Halving.{halvedOf}
-use Rattle.meaning.proofs.Filling.{length-listed, at-listed}
-use Rattle.solve.specs.Rows.{allBelow, flat, Shaped}
+use Rattle.meaning.proofs.Filling.{length-listed, nth-listed}
+use Rattle.solve.specs.Rows.{flat, Shaped}
 use Rattle.solve.proofs.Lists.{length-cond, blend, blend-start, blend-next, blend-all}
 use Rattle.solve.proofs.Flat.{shaped-set}
 use Rattle.plane.specs.Vector.{Vector}
@@ -23,20 +22,17 @@ use Rattle.fit.specs.Parameters.{pointAt}
 use Rattle.fit.specs.Stored.{foundFitRow, foundFitRows}
 use Rattle.fit.proofs.Sums.{listed-cong, choice-cong}
 
-all-cong : (n : ℕ) (p q : ℕ → Bool) → ((i : ℕ) → i < n → p i ≡ q i) → allBelow n p ≡ allBelow n q
-unfolding allBelow
+all-cong : (n : ℕ) (p q : ℕ → Bool) → ((i : ℕ) → i < n → p i ≡ q i) → every n p ≡ every n q
+unfolding every
 all-cong zero p q h = refl
 all-cong (suc n) p q h = λ t. all-cong n p q (λ i l. h i (omega arith)) t && h n (omega arith) t
 
 -- entry j of a list made from 0 on
-pub listed-at : {A : Type 0} (d j : ℕ) (f : ℕ → A) (z : A) → j < d → getD (listed 0 d f) j z ≡ f j
-listed-at d j f z l = at-listed 0 d j f z l ∙ ap f (zero-add j)
-
 module _ {A : Type 0} (o : Ops A) where
   -- the verdict of a row made index by index
-  pub row-verdict : (m : ℕ) (f : ℕ → A) → allBelow (m + 2) (λ k. o .fine (f k)) ≡ rowOk o m (listed 0 (m + 2) f)
+  pub row-verdict : (m : ℕ) (f : ℕ → A) → every (m + 2) (λ k. o .fine (f k)) ≡ rowOk o m (listed 0 (m + 2) f)
   unfolding rowOk
-  row-verdict m f = all-cong (m + 2) _ _ (λ k l. ap (o .fine) (sym (listed-at (m + 2) k f (o .off) l)))
+  row-verdict m f = all-cong (m + 2) _ _ (λ k l. ap (o .fine) (sym (nth-listed (m + 2) k f (o .off) l)))
 
 module _ {A : Type 0} (o : Ops A) (sp : Float → ℕ) (us : List A) where
   pub length-row : (m : ℕ) (t : A) (d : ℕ) (b : Vector A) → length (rowOf o sp us m t d b) ≡ m + 2
@@ -55,7 +51,7 @@ module _ {A : Type 0} (o : Ops A) (sp : Float → ℕ) (us : List A) where
 
     pub fit-row-at : (r : ℕ) → r < n + 2 → getD (fitRows o sp us p q n) r [] ≡ fitRow o sp us p q n r
     unfolding fitRows
-    fit-row-at r l = listed-at (n + 2) r (fitRow o sp us p q n) [] l
+    fit-row-at r l = nth-listed (n + 2) r (fitRow o sp us p q n) [] l
 
     pub length-fit-rows : length (fitRows o sp us p q n) ≡ n + 2
     unfolding fitRows

@@ -9,10 +9,9 @@ use lib.Dec.{ltb, leb, eqb}
 use lib.Ieee.{Float}
 use Rattle.meaning.specs.Scalar.{Ops, zero64, one64}
 use Rattle.meaning.specs.Table.{at1}
-use Rattle.meaning.specs.Search.{listed}
+use Rattle.meaning.specs.Search.{listed, every}
 use Rattle.basis.specs.Basis.{basisOf}
 use Rattle.plane.specs.Vector.{Vector}
-use Rattle.solve.specs.Rows.{allBelow}
 use Rattle.fit.specs.Parameters.{pointAt}
 
 module _ {A : Type 0} (o : Ops A) where
@@ -29,13 +28,13 @@ module _ {A : Type 0} (o : Ops A) where
 
   -- every number of a row of m + 2 is finite
   unfoldable pub rowOk : ℕ → List A → Bool
-  unfolding allBelow
-  rowOk m row = allBelow (m + 2) (λ k. o .fine (at1 o row k))
+  unfolding every
+  rowOk m row = every (m + 2) (λ k. o .fine (at1 o row k))
 
   -- every number of m rows is
   unfoldable pub rowsOk : ℕ → (ℕ → List A) → Bool
-  unfolding allBelow rowOk
-  rowsOk m row = allBelow m (λ r. rowOk m (row r))
+  unfolding every rowOk
+  rowsOk m row = every m (λ r. rowOk m (row r))
 
 -- `sp` finds the span of a parameter among the knots us
 module _ {A : Type 0} (o : Ops A) (sp : Float → ℕ) (us : List A) where

@@ -1,6 +1,6 @@
 -- A list filled index by index, as a loop fills an array: its invariant, and what it leaves. Assumes nothing.
 use mathlib.Core.Path.{_≡_, refl, sym, ap, _∙_}
-use mathlib.Core.List.{List, _∷_}
+use mathlib.Core.List.{List, _∷_, map}
 use mathlib.Core.Logic.{inl, inr}
 use Prim.Native.Nat.{ℕ, zero, suc, _+_, _≤_, _<_, zero-le}
 use native.Mathlib.Nat.{eq-or-lt-of-le, suc-add, zero-add, add-zero, add-suc}
@@ -29,6 +29,12 @@ module _ {A : Type 0} where
   unfolding listed
   listed-same i zero z = refl
   listed-same i (suc d) z = ap (λ (l : List A). z ∷ l) (listed-same (suc i) d z)
+
+-- a list by its indices, mapped
+pub map-listed : {A B : Type 0} (g : A → B) (i d : ℕ) (f : ℕ → A) → map g (listed i d f) ≡ listed i d (λ j. g (f j))
+unfolding listed
+map-listed g i zero f = refl
+map-listed g i (suc d) f = ap (λ l. g (f i) ∷ l) (map-listed g (suc i) d f)
 
 -- the entries below k are those of f, in a list of d
 pub record Filled {A : Type 0} (f : ℕ → A) (z : A) (d k : ℕ) (l : List A) : Type 0 where

@@ -3,6 +3,7 @@ pub mod Tests
 pub mod For
 pub mod While
 pub mod Searching
+pub mod Every
 pub mod Filling
 pub mod Rows
 pub mod Order

@@ -1,5 +1,5 @@
--- A search along indices, and a list by its indices.
-use mathlib.Core.Bool.{Bool, cond}
+-- A search along indices, a test of every index, and a list by its indices.
+use mathlib.Core.Bool.{Bool, true, _&&_, cond}
 use mathlib.Core.List.{List, [], _∷_}
 use Prim.Native.Nat.{ℕ, zero, suc, _-_}
 use lib.Dec.{ltb}
@@ -16,6 +16,11 @@ seek lo hi p = seekFrom lo (hi - lo) p
 -- the test holds at some index from lo on, below hi
 abbrev pub some : ℕ → ℕ → (ℕ → Bool) → Bool
 some lo hi p = ltb (seek lo hi p) hi
+
+-- the test holds at each of the first n indices
+unfoldable pub every : ℕ → (ℕ → Bool) → Bool
+every zero p = true
+every (suc n) p = every n p && p n
 
 -- f i, f (i + 1) and so on, d of them
 unfoldable pub listed : {A : Type 0} → ℕ → ℕ → (ℕ → A) → List A

@@ -6,26 +6,24 @@ use Prim.Native.Nat.{ℕ, zero, suc, _+_, _-_, _*_, _/_, _%_, _≤_, _<_}
 use native.Mathlib.Nat.{zero-add, add-zero, sub-zero, add-assoc, le-refl}
 use native.Mathlib.Numerals.{add-one, one-add}
 use native.Mathlib.Omega.{arith}
-use borrow.Author.Tests.{ltb-true, ltb-false, lt-ltb, le-ltb, eqb-true, ne-eqb, not-true, not-false}
+use borrow.Author.Tests.{ltb-true, ltb-false, lt-ltb, le-ltb, eqb-true, ne-eqb, not-false}
 use lib.Arith.{digits-div, digits-mod}
 use lib.Dec.{leb, ltb, eqb}
 use lib.ListN.{length, drop, List·getD-eq-default}
 use lib.Seq.{drop-cons, drop-length}
 use Rattle.meaning.specs.Loops.{turns}
 use Rattle.meaning.proofs.Tests.{no, by-two, and-left, and-right}
-use Rattle.meaning.proofs.Searching.{none-found, seek-first}
-use Rattle.sheet_read.specs.Text.{text, byteAt, every, wordStands}
+use Rattle.meaning.proofs.Searching.{seek-first}
+use Rattle.meaning.specs.Search.{every}
+use Rattle.sheet_read.specs.Text.{text, byteAt, wordStands}
 use Rattle.sheet_read.specs.Number.{isDecimal, isLetter, isHex, digitOf, glyph, numberAt, digitsAt, countAt, countStands, doubleStands}
 use Rattle.sheet_read.specs.Grammar.{byteAfter, numberPlace, numbersStand, noSection, sectionAt, sheetOf}
 use Rattle.sheet_read.specs.Written.{digitsText, countText, numbersText, sectionText, sheetText}
+use Rattle.sheet_read.specs.Content.{bitsAt}
+use Rattle.meaning.proofs.Every.{each}
 use Rattle.sheet_read.specs.declared.Section.{Section}
 use Rattle.sheet_read.proofs.Sections.{whole}
 use Rattle.sheet_read.proofs.Numerals.{not-below, not-above, decimal-is, letter-is, few-digits, first-digit, at-least-one, no-zero}
-
--- ---- a test of every index, told index by index
-
-pub each : (n : ℕ) (p : ℕ → Bool) → every n p ≡ true → (i : ℕ) → i < n → p i ≡ true
-each n p h i l = not-false (p i) (none-found (λ j. not (p j)) 0 n (not-true _ h) i (omega arith) l)
 
 -- a byte that is a digit in the base is the digit's own
 pub record Digit (base b : ℕ) : Type 0 where
@@ -76,7 +74,7 @@ module _ (s : List ℕ) where
 
   -- ---- digits
 
-  number-more : (base n a : ℕ) → numberAt base s (suc n) a ≡ numberAt base s n a * base + digitOf (byteAt s (a + n))
+  pub number-more : (base n a : ℕ) → numberAt base s (suc n) a ≡ numberAt base s n a * base + digitOf (byteAt s (a + n))
   unfolding numberAt turns
   number-more base n a = rw (sub-zero (suc n), sub-zero n, zero-add n)
 
@@ -198,13 +196,9 @@ module _ (s : List ℕ) where
   after-visible : (per j : ℕ) → 1 ≤ byteAfter per j
   after-visible per j = by-two (eqb (j % per) (per - 1)) (λ e. rw e (omega arith)) (λ e. rw e (omega arith))
 
-  -- the bits of number j
-  abbrev bitsAt : ℕ → ℕ → ℕ
-  bitsAt start j = numberAt 16 s 16 (numberPlace start j)
-
   module _ (per n start : ℕ) (h : numbersStand s per n start ≡ true) where
     some-stand : (k : ℕ) → k ≤ n
-        → Stands s start (turns 0 k (λ j l. l ++ (digitsText 16 16 (bitsAt start j) ++ (byteAfter per j ∷ []))) []) (numberPlace start k)
+        → Stands s start (turns 0 k (λ j l. l ++ (digitsText 16 16 (bitsAt s start j) ++ (byteAfter per j ∷ []))) []) (numberPlace start k)
     unfolding turns numbersStand
     some-stand zero l = rw (add-zero start) nothing
     some-stand (suc k) l =
@@ -212,7 +206,7 @@ module _ (s : List ℕ) where
         let end : numberPlace start k + 17 ≡ numberPlace start (suc k) = omega arith in
         rw (← end, zero-add k) (joined (some-stand k (omega arith)) one)
 
-    pub numbers-stand : Stands s start (numbersText per (bitsAt start) n) (numberPlace start n)
+    pub numbers-stand : Stands s start (numbersText per (bitsAt s start) n) (numberPlace start n)
     unfolding numbersText
     numbers-stand = rw (sub-zero n) (some-stand n (le-refl n))
 
@@ -230,14 +224,14 @@ module _ (s : List ℕ) where
     unfolding sectionAt
     tests = formed-by _ _ h
 
-    pub section-stands : Stands s at (sectionText w per (bitsAt (sectionAt s w most per at .start)) (sectionAt s w most per at .count)) (sectionAt s w most per at .next)
+    pub section-stands : Stands s at (sectionText w per (bitsAt s (sectionAt s w most per at .start)) (sectionAt s w most per at .count)) (sectionAt s w most per at .next)
     unfolding sectionText
     section-stands =
         let c = at + length w in
         let t = and-left (wordStands s w at) _ tests in
         let u = and-left (countStands s most c) _ (and-right (wordStands s w at) _ tests) in
         let v = and-right (countStands s most c) _ (and-right (wordStands s w at) _ tests) in
-        subst (λ (x : Section). Stands s at (w ++ (countText (x .count) ++ (text "\n" ++ numbersText per (bitsAt (x .start)) (per * x .count)))) (x .next))
+        subst (λ (x : Section). Stands s at (w ++ (countText (x .count) ++ (text "\n" ++ numbersText per (bitsAt s (x .start)) (per * x .count)))) (x .next))
         (whole s w most per at t u refl refl v)
         (joined (word-stands s w at visible t)
         (joined (count-stands c most u) (joined (line-ends c most u) (numbers-stand per (per * countAt s c) (c + digitsAt s c + 1) v))))
@@ -255,8 +249,8 @@ module _ (s : List ℕ) where
 
   pub canonical : sheetOf s .formed ≡ true
       → s
-      ≡ sheetText (sheetOf s .fit) (bitsAt (sheetOf s .points .start)) (sheetOf s .points .count) (bitsAt (sheetOf s .knots .start)) (sheetOf s .knots .count)
-      (bitsAt (sheetOf s .parameters .start)) (sheetOf s .parameters .count)
+      ≡ sheetText (sheetOf s .fit) (bitsAt s (sheetOf s .points .start)) (sheetOf s .points .count) (bitsAt s (sheetOf s .knots .start)) (sheetOf s .knots .count)
+      (bitsAt s (sheetOf s .parameters .start)) (sheetOf s .parameters .count)
   unfolding sheetOf sheetText
   canonical h =
       let fit = wordStands s (text "fit\n") 0 in

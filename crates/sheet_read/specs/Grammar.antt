@@ -5,8 +5,8 @@ use mathlib.Core.List.{List}
 use lib.ListN.{length}
 use lib.Dec.{eqb}
 use lib.Ieee.{Float}
-use Rattle.meaning.specs.Search.{listed}
-use Rattle.sheet_read.specs.Text.{text, every, wordStands}
+use Rattle.meaning.specs.Search.{listed, every}
+use Rattle.sheet_read.specs.Text.{text, wordStands}
 use Rattle.sheet_read.specs.Number.{digitsAt, countAt, countStands, doubleStands, doubleAt}
 use Rattle.sheet_read.specs.declared.Section.{Section}
 use Rattle.sheet_read.specs.declared.Sheet.{Sheet}

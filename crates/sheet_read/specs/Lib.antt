@@ -3,3 +3,4 @@ pub mod Text
 pub mod Number
 pub mod Grammar
 pub mod Written
+pub mod Content

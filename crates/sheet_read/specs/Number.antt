@@ -6,8 +6,8 @@ use mathlib.Core.List.{List}
 use lib.Dec.{leb, ltb, eqb}
 use lib.Ieee.{Float, binary64, ofBits}
 use Rattle.meaning.specs.Loops.{run}
-use Rattle.meaning.specs.Search.{seek}
-use Rattle.sheet_read.specs.Text.{byteAt, every}
+use Rattle.meaning.specs.Search.{seek, every}
+use Rattle.sheet_read.specs.Text.{byteAt}
 
 abbrev pub within : ℕ → ℕ → ℕ → Bool
 within lo hi b = leb lo b && leb b hi

@@ -2,11 +2,11 @@
 use Prim.Native.Nat.{ℕ, _+_}
 use Prim.Native.Char.{code}
 use Prim.Native.String.{String, [] as ε, _∷_ as _▹_}
-use mathlib.Core.Bool.{Bool, not}
+use mathlib.Core.Bool.{Bool}
 use mathlib.Core.List.{List, [], _∷_}
 use lib.ListN.{length, getD}
 use lib.Dec.{eqb}
-use Rattle.meaning.specs.Search.{some}
+use Rattle.meaning.specs.Search.{every}
 
 -- the bytes of a word, by their codes
 abbrev pub text : String → List ℕ
@@ -15,10 +15,6 @@ text (c ▹ w) = code c ∷ text w
 
 abbrev pub byteAt : List ℕ → ℕ → ℕ
 byteAt s i = getD s i 0
-
--- the test holds at each of the first n indices
-abbrev pub every : ℕ → (ℕ → Bool) → Bool
-every n p = not (some 0 n (λ i. not (p i)))
 
 -- the word w stands in s at `at`
 unfoldable pub wordStands : List ℕ → List ℕ → ℕ → Bool

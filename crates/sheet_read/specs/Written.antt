@@ -1,5 +1,5 @@
--- The text of what a sheet says. The contracts do not need it: `proofs/Canonical.antt` shows that a text which has the form is the one written here, so
--- that every sheet has one text only.
+-- The text of what a sheet says. The contracts do not need it: `proofs/Canonical.antt` shows that a text which has the form is the one written here, and
+-- `proofs/Accepted.antt` that every text written here has the form.
 use Prim.Native.Nat.{ℕ, zero, suc, _*_, _/_, _%_}
 use mathlib.Core.Bool.{Bool, cond}
 use mathlib.Core.List.{List, [], _∷_, _++_}

@@ -1,16 +1,13 @@
--- A list that a loop rewrites from the front, and a test of every index. Assumes nothing.
-use mathlib.Core.Path.{_≡_, refl, sym, ap, _∙_, subst}
-use mathlib.Core.Bool.{Bool, true, false, not, _&&_, _||_, cond}
-use mathlib.Core.Logic.{inl, inr}
+-- A list that a loop rewrites from the front, and turns from 0 on. Assumes nothing.
+use mathlib.Core.Path.{_≡_, refl, sym, ap, subst}
+use mathlib.Core.Bool.{Bool, true, false, cond}
 use mathlib.Core.List.{List, [], _∷_, _++_}
 use Prim.Native.Nat.{ℕ, zero, suc, _+_, _*_, _≤_, _<_, suc-le-suc}
-use native.Mathlib.Nat.{le-of-suc-le-suc, not-suc-le-zero, zero-add, suc-inj, suc-ne-zero, mul-le-mul-right, suc-mul, zero-lt-suc, eq-or-lt-of-le}
+use native.Mathlib.Nat.{le-of-suc-le-suc, not-suc-le-zero, zero-add, suc-inj, suc-ne-zero, mul-le-mul-right, suc-mul, zero-lt-suc}
 use native.Mathlib.Omega.{arith}
 use native.Mathlib.Numerals.{add-one}
 use lib.ListN.{length, getD, set, take, drop, replicate}
 use Rattle.meaning.specs.Loops.{turns}
-use Rattle.meaning.proofs.Tests.{and-left, and-right}
-use Rattle.solve.specs.Rows.{allBelow}
 
 -- row r ends within m rows of s
 pub row-le : (r m s : ℕ) → r < m → r * s + s ≤ m * s
@@ -71,35 +68,6 @@ module _ {A : Type 0} where
 
   pub fill-next : (n : ℕ) (v : A) (d t : List A) → t ≡ replicate n v ++ drop n d → n < length d → set t n v ≡ replicate (n + 1) v ++ drop (n + 1) d
   fill-next n v d t e l = rw (e, add-one n) (fill-suc n v d l)
-
--- ---- a test of every index
-pub allBelow-none : (p : ℕ → Bool) → true ≡ allBelow 0 p
-unfolding allBelow
-allBelow-none p = refl
-
-pub allBelow-true : (n : ℕ) (p : ℕ → Bool) → ((i : ℕ) → i < n → p i ≡ true) → allBelow n p ≡ true
-unfolding allBelow
-allBelow-true zero p h = refl
-allBelow-true (suc n) p h = ap (λ (b : Bool). b && p n) (allBelow-true n p (λ i l. h i (omega arith))) ∙ h n (omega arith)
-
-pub allBelow-at : (n : ℕ) (p : ℕ → Bool) → allBelow n p ≡ true → (i : ℕ) → i < n → p i ≡ true
-unfolding allBelow
-allBelow-at zero p h i l = absurd (not-suc-le-zero l)
-allBelow-at (suc n) p h i l =
-    elim (eq-or-lt-of-le (le-of-suc-le-suc l)) [ inl e ↦ ap p e ∙ and-right (allBelow n p) (p n) h | inr g ↦ allBelow-at n p (and-left (allBelow n p) (p n) h) i g ]
-
--- one index more is tested: a flag that a turn joins with its test, and one that a turn raises where its test fails
-pub allBelow-next : (p : ℕ → Bool) (k : ℕ) {old test new : Bool} → old ≡ allBelow k p → test ≡ p k → new ≡ (old && test) → new ≡ allBelow (k + 1) p
-unfolding allBelow
-allBelow-next p k e h n = rw (add-one k) (n ∙ rw (e, h))
-
-not-and : (a b : Bool) → (not a || not b) ≡ not (a && b)
-not-and true b = refl
-not-and false b = refl
-
-pub spoilt-next : (p : ℕ → Bool) (k : ℕ) {old test new : Bool} → old ≡ not (allBelow k p) → test ≡ p k → new ≡ (old || not test) → new ≡ not (allBelow (k + 1) p)
-unfolding allBelow
-spoilt-next p k e h n = rw (add-one k) (n ∙ rw (e, h) (not-and (allBelow k p) (p k)))
 
 -- ---- turns from 0 on: one more, and what every turn keeps
 module _ {S : Type 0} (f : ℕ → S → S) where

@@ -12,10 +12,12 @@ use Rattle.meaning.specs.Scalar.{Ops, zero64}
 use Rattle.meaning.specs.Number.{atLeast}
 use Rattle.meaning.specs.Loops.{turns}
 use Rattle.meaning.specs.Table.{at1, at2}
-use Rattle.solve.specs.Rows.{allBelow, Shaped}
+use Rattle.meaning.specs.Search.{every}
+use Rattle.solve.specs.Rows.{Shaped}
 use Rattle.solve.specs.Elimination.{better, bestAmong, lessBy, lessAt, subtracted, fineAt, reduced, reducedOk, rowAfter, reducedRows, rowFine, pivot, pivoted, columnDone, eliminated}
 use Rattle.meaning.proofs.Filling.{length-listed, nth-listed}
-use Rattle.solve.proofs.Lists.{blend, blend-next, blend-start, blend-get, length-cond, allBelow-true, turns-next, turns-keep}
+use Rattle.meaning.proofs.Every.{all}
+use Rattle.solve.proofs.Lists.{blend, blend-next, blend-start, blend-get, length-cond, turns-next, turns-keep}
 use Rattle.solve.proofs.Flat.{swapped-shaped}
 
 -- ---- a row t less f times the row p
@@ -46,9 +48,9 @@ module _ {A : Type 0} (o : Ops A) (n col : ℕ) (f : A) (p t : List A) where
       → set u k v ≡ blend (k + 1) (subtracted o n col f p t) t
   sub-turn u k v e h w = blend-next (subtracted o n col f p t) t u k v (o .off) e sub-length h (w ∙ sym (sub-at k (o .off) h))
 
-  pub fine-start : true ≡ allBelow col (fineAt o n col f p t)
+  pub fine-start : true ≡ every col (fineAt o n col f p t)
   unfolding fineAt
-  fine-start = sym (allBelow-true col (fineAt o n col f p t) (λ i l. rw (lt-ltb i col l)))
+  fine-start = sym (all col (fineAt o n col f p t) (λ i l. rw (lt-ltb i col l)))
 
   pub fine-at : (k : ℕ) → col ≤ k → o .fine (lessAt o n col f p t k) ≡ fineAt o n col f p t k
   unfolding fineAt
@@ -94,9 +96,9 @@ module _ {A : Type 0} (o : Ops A) (n col : ℕ) (p : List A) where
         blend-next (reducedRows o m n col p M) M (blend r (reducedRows o m n col p M) M) r _ [] refl (rows-length ∙ sym l) (omega arith)
         (ap (reduced o n col p) (rows-read r l) ∙ sym (rows-at r g ∙ row-below r h))
 
-    pub rows-fine-start : true ≡ allBelow (col + 1) (rowFine o n col p M)
+    pub rows-fine-start : true ≡ every (col + 1) (rowFine o n col p M)
     unfolding rowFine
-    rows-fine-start = sym (allBelow-true (col + 1) (rowFine o n col p M) (λ i g. rw (le-leb i col (omega arith))))
+    rows-fine-start = sym (all (col + 1) (rowFine o n col p M) (λ i g. rw (le-leb i col (omega arith))))
 
     pub rows-fine-at : (r : ℕ) → col < r → reducedOk o n col p (getD M r []) ≡ rowFine o n col p M r
     unfolding rowFine

@@ -11,8 +11,8 @@ use Rattle.meaning.specs.Scalar.{Ops, zero64}
 use Rattle.meaning.specs.Number.{atLeast}
 use Rattle.meaning.specs.Loops.{turns}
 use Rattle.meaning.specs.Table.{at1, at2}
-use Rattle.meaning.specs.Search.{listed}
-use Rattle.solve.specs.Rows.{allBelow, swapped}
+use Rattle.meaning.specs.Search.{listed, every}
+use Rattle.solve.specs.Rows.{swapped}
 
 module _ {A : Type 0} (o : Ops A) where
   -- row r, if its number k is at least in size that of the best row so far
@@ -41,8 +41,8 @@ module _ {A : Type 0} (o : Ops A) where
   fineAt n col f p t k = cond (ltb k col) true (o .fine (lessAt n col f p t k))
 
   unfoldable pub subtractedOk : ℕ → ℕ → A → List A → List A → Bool
-  unfolding allBelow fineAt
-  subtractedOk n col f p t = allBelow (length t) (fineAt n col f p t)
+  unfolding every fineAt
+  subtractedOk n col f p t = every (length t) (fineAt n col f p t)
 
   -- the row t once its number in column col is eliminated by the pivot row p; skipped where that number compares equal to 0
   unfoldable pub reduced : ℕ → ℕ → List A → List A → List A
@@ -69,8 +69,8 @@ module _ {A : Type 0} (o : Ops A) where
   rowFine n col p M r = cond (leb r col) true (reducedOk n col p (getD M r []))
 
   unfoldable pub reducedRowsOk : ℕ → ℕ → ℕ → List A → List (List A) → Bool
-  unfolding allBelow rowFine
-  reducedRowsOk m n col p M = allBelow m (rowFine n col p M)
+  unfolding every rowFine
+  reducedRowsOk m n col p M = every m (rowFine n col p M)
 
   -- of m rows of m matrix numbers the one that column col is eliminated by, and the rows once it stands in row col
   unfoldable pub pivot : ℕ → ℕ → List (List A) → ℕ
@@ -96,5 +96,5 @@ module _ {A : Type 0} (o : Ops A) where
   eliminated m n M = turns 0 n (columnDone m) M
 
   unfoldable pub eliminatedOk : ℕ → ℕ → List (List A) → Bool
-  unfolding allBelow columnOk eliminated
-  eliminatedOk m n M = allBelow n (λ col. columnOk m col (eliminated m col M))
+  unfolding every columnOk eliminated
+  eliminatedOk m n M = every n (λ col. columnOk m col (eliminated m col M))

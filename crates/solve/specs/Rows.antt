@@ -1,14 +1,8 @@
--- A test of every index, and rows of numbers: a list of lists, and the same laid one after the other in a buffer.
+-- Rows of numbers: a list of lists, and the same laid one after the other in a buffer.
 use mathlib.Core.Path.{_≡_}
-use mathlib.Core.Bool.{Bool, true, _&&_}
 use mathlib.Core.List.{List, [], _∷_, _++_}
 use Prim.Native.Nat.{ℕ, zero, suc, _<_}
 use lib.ListN.{length, take, drop, getD, set}
-
--- the test holds at every index below n
-unfoldable pub allBelow : ℕ → (ℕ → Bool) → Bool
-allBelow zero p = true
-allBelow (suc n) p = allBelow n p && p n
 
 -- rows i and j exchanged
 unfoldable pub swapped : {A : Type 0} → List (List A) → ℕ → ℕ → List (List A)

@@ -7,7 +7,7 @@ use lib.ListN.{getD, set}
 use Rattle.meaning.specs.Scalar.{Ops, one64}
 use Rattle.meaning.specs.Loops.{turns}
 use Rattle.meaning.specs.Table.{at2}
-use Rattle.solve.specs.Rows.{allBelow}
+use Rattle.meaning.specs.Search.{every}
 use Rattle.solve.specs.Elimination.{eliminated, eliminatedOk}
 
 module _ {A : Type 0} (o : Ops A) where
@@ -46,8 +46,8 @@ module _ {A : Type 0} (o : Ops A) where
   backed m n M = turns 0 n (answeredUp m) M
 
   unfoldable pub backedOk : ℕ → ℕ → List (List A) → Bool
-  unfolding allBelow answeredOk backed
-  backedOk m n M = allBelow n (λ i. answeredUpOk m i (backed m i M))
+  unfolding every answeredOk backed
+  backedOk m n M = every n (λ i. answeredUpOk m i (backed m i M))
 
   -- the whole solve of m rows of m matrix numbers and two right sides, which are the answers afterwards
   unfoldable pub solved : ℕ → List (List A) → List (List A)

@@ -18,7 +18,8 @@ use Rattle.solve.specs.Rows.{Shaped}
 use Rattle.solve.specs.Elimination.{pivot, pivoted, columnDone, columnOk, eliminated, eliminatedOk}
 use Rattle.solve.specs.Substitution.{remains, answer, answered, answeredUp, answeredOk, answeredUpOk, backed, backedOk, solvedOk}
 use Rattle.meaning.proofs.Tests.{no, refuted, and-left, and-right}
-use Rattle.solve.proofs.Lists.{allBelow-at, turns-keep}
+use Rattle.meaning.proofs.Every.{each}
+use Rattle.solve.proofs.Lists.{turns-keep}
 use Rattle.solve.proofs.Flat.{same, swapped-first, swapped-other}
 use Rattle.solve.proofs.Steps.{rows-at, row-above, pivot-ge, pivot-lt, eliminated-next, eliminated-shaped}
 use Rattle.solve_laws.proofs.Zeros.{over-zero, times-wild}
@@ -79,11 +80,11 @@ module _ {A : Type 0} (o : Ops A) (m s : ℕ) where
 module _ {A : Type 0} (o : Ops A) (m : ℕ) (M : List (List A)) (ok : solvedOk o m M ≡ true) where
   pub columns-fine : (c : ℕ) → c < m → columnOk o m c (eliminated o m c M) ≡ true
   unfolding solvedOk eliminatedOk
-  columns-fine = allBelow-at m (λ c. columnOk o m c (eliminated o m c M)) (and-left (eliminatedOk o m m M) (backedOk o m m (eliminated o m m M)) ok)
+  columns-fine = each m (λ c. columnOk o m c (eliminated o m c M)) (and-left (eliminatedOk o m m M) (backedOk o m m (eliminated o m m M)) ok)
 
   pub answers-fine : (i : ℕ) → i < m → answeredUpOk o m i (backed o m i (eliminated o m m M)) ≡ true
   unfolding solvedOk backedOk
-  answers-fine = allBelow-at m (λ i. answeredUpOk o m i (backed o m i (eliminated o m m M))) (and-right (eliminatedOk o m m M) (backedOk o m m (eliminated o m m M)) ok)
+  answers-fine = each m (λ i. answeredUpOk o m i (backed o m i (eliminated o m m M))) (and-right (eliminatedOk o m m M) (backedOk o m m (eliminated o m m M)) ok)
 
 answer-wild : (M : List (List Float)) (r c d n : ℕ) → eq (at2 plain M r d) zero64 ≡ true → finite (answer plain M r c d n) ≡ false
 unfolding answer

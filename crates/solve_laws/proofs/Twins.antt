@@ -21,7 +21,7 @@ use Rattle.solve.specs.Rows.{Shaped}
 use Rattle.solve.specs.Elimination.{lessAt, fineAt, subtracted, subtractedOk, reduced, reducedOk, rowFine, reducedRowsOk, pivot, pivoted, columnDone, columnOk, eliminated}
 use Rattle.solve.specs.Substitution.{solvedOk}
 use Rattle.meaning.proofs.Tests.{no, refuted, and-left, and-right}
-use Rattle.solve.proofs.Lists.{allBelow-at}
+use Rattle.meaning.proofs.Every.{each}
 use Rattle.solve.proofs.Flat.{same, swapped-first, swapped-second, swapped-other}
 use Rattle.solve.proofs.Steps.{sub-at, fine-at, rows-at, row-below, rows-fine-at, pivot-ge, pivot-lt, eliminated-none, eliminated-next, eliminated-shaped}
 use Rattle.solve_laws.proofs.Zeros.{self-quotient, less-once}
@@ -63,7 +63,7 @@ module _ (m c : ℕ) (p t : List Float) (long : m ≤ length t) (j : ℕ) (g : c
     unfolding subtractedOk
     stored-fine =
         ap finite (sym (less-at f)) ∙ fine-at plain m c f p t j g
-        ∙ allBelow-at (length t) (fineAt plain m c f p t) (and-right (finite f) (subtractedOk plain m c f p t) taken) j (omega arith)
+        ∙ each (length t) (fineAt plain m c f p t) (and-right (finite f) (subtractedOk plain m c f p t) taken) j (omega arith)
 
 -- what is left of y where the pivot row has the same numbers: x in column c, y here
 left-over : (x y : Float) → eq x zero64 ≡ false → finite (div binary64 x x) ≡ true → T (fits binary64 y) → finite (sub binary64 y (mul binary64 (div binary64 x x) y)) ≡ true
@@ -146,7 +146,7 @@ module _ (m c : ℕ) (D : List (List Float)) (sh : Shaped m (m + 2) D) (C : c < 
         let N = pivoted plain m c D in
         sym (λ i. reducedOk plain m c (pivot-at i) (row-to i))
         ∙ rows-fine-at plain m c (getD N c []) m N (to c p a) (omega (arith, to-ge))
-        ∙ allBelow-at m (rowFine plain m c (getD N c []) N) ok (to c p a) to-lt
+        ∙ each m (rowFine plain m c (getD N c []) N) ok (to c p a) to-lt
 
     long : m ≤ length (getD D a [])
     long = omega (arith, sh .each a h)

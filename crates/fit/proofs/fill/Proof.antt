@@ -4,8 +4,9 @@ use Prim.Native.Nat.{_-_, _+_, _≤_}
 use native.Mathlib.Omega.{arith}
 use lib.ListN.{length}
 use Rattle.meaning.specs.Scalar.{plain}
-use Rattle.solve.specs.Rows.{allBelow, ofRows}
-use Rattle.solve.proofs.Lists.{allBelow-none, allBelow-next}
+use Rattle.meaning.specs.Search.{every}
+use Rattle.solve.specs.Rows.{ofRows}
+use Rattle.meaning.proofs.Every.{every-none, every-next}
 use Rattle.fit.specs.System.{rowOk, rowsOk}
 use Rattle.fit.specs.Stored.{foundFitRow, foundFitRows}
 use Rattle.fit.proofs.Rows.{Written, none-written, one-more, all-written, found-row-at, found-shaped}
@@ -16,7 +17,7 @@ use Rattle.fit.proofs.fill.Tie as tie
 abbrev Inv-loop : tie.InvT-loop
 Inv-loop w₀ u p q n fine₀ m r₀ w fine r =
     ofRows (n + 2) (n + 2 + 2) w₀ (λ M rest. Written (n + 2) (n + 2 + 2) (foundFitRows u p q n) r M rest w)
-    × (fine ≡ allBelow r (λ k. rowOk plain (n + 2) (foundFitRow u p q n k)))
+    × (fine ≡ every r (λ k. rowOk plain (n + 2) (foundFitRow u p q n k)))
     × (r ≤ n + 2)
     × (length w ≡ length w₀)
 
@@ -27,7 +28,7 @@ add-m : tie.Need-add-m Inv-loop μ-loop
 add-m c = search needs
 
 loop-holds : tie.Need-loop-holds Inv-loop μ-loop
-loop-holds c = (λ M rest e sh. none-written (found-shaped _ _ _ _) sh e, allBelow-none _, search needs, refl)
+loop-holds c = (λ M rest e sh. none-written (found-shaped _ _ _ _) sh e, every-none _, search needs, refl)
 
 fill-at-requires : tie.Need-fill-at-requires Inv-loop μ-loop
 fill-at-requires c κs = search needs
@@ -49,7 +50,7 @@ loop-again c =
       λ M rest e sh.
           let old = l .inv .0 M rest e sh in
           one-more (found-shaped _ _ _ _) sh old t (sym (found-row-at _ _ _ _ (l .r) t)) (call .ensures .held _ rest (old .rows) (old .shape)),
-      allBelow-next _ (l .r) (l .inv .1) (call .ensures .judged) (c .both .ensures),
+      every-next _ (l .r) (l .inv .1) (call .ensures .judged) (c .both .ensures),
       search needs,
       omega (arith, call .kept),
     )

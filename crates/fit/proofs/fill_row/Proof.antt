@@ -7,8 +7,8 @@ use lib.Ieee.Scale.{finite}
 use Rattle.meaning.specs.Scalar.{plain}
 use Rattle.meaning.proofs.Filling.{Filled, empty, filled, full}
 use Rattle.plane.specs.View.{view}
-use Rattle.solve.specs.Rows.{allBelow}
-use Rattle.solve.proofs.Lists.{allBelow-none, allBelow-next}
+use Rattle.meaning.specs.Search.{every}
+use Rattle.meaning.proofs.Every.{every-none, every-next}
 use Rattle.fit.specs.System.{spread, withSides}
 use Rattle.fit.proofs.Rows.{row-verdict}
 use borrow.Author.Needs.{needs}
@@ -16,7 +16,7 @@ use Rattle.fit.proofs.fill_row.Statement.{statement}
 use Rattle.fit.proofs.fill_row.Tie as tie
 
 abbrev Inv-loop : tie.InvT-loop
-Inv-loop t₀ four i m b fine₀ end k₀ t fine k = Filled (withSides plain m (spread plain four i) (view b)) nan (m + 2) k t × (fine ≡ allBelow k (λ j. finite (withSides plain m (spread plain four i) (view b) j)))
+Inv-loop t₀ four i m b fine₀ end k₀ t fine k = Filled (withSides plain m (spread plain four i) (view b)) nan (m + 2) k t × (fine ≡ every k (λ j. finite (withSides plain m (spread plain four i) (view b) j)))
 
 abbrev μ-loop : tie.MeasureT-loop
 μ-loop t₀ four i m b fine₀ end k₀ t fine k = m + 2 - k
@@ -25,7 +25,7 @@ add-end : tie.Need-add-end Inv-loop μ-loop
 add-end c = search needs
 
 loop-holds : tie.Need-loop-holds Inv-loop μ-loop
-loop-holds c = (empty (search needs), allBelow-none _)
+loop-holds c = (empty (search needs), every-none _)
 
 number-at-requires : tie.Need-number-at-requires Inv-loop μ-loop
 number-at-requires c κs = search needs
@@ -52,7 +52,7 @@ loop-again : tie.Need-loop-again Inv-loop μ-loop
 loop-again c =
     let l = c .before .before .before .before .loop in
     let v = c .before .before .number-at .ensures in
-    (filled (l .inv .0) (search needs) v, allBelow-next _ (l .k) (l .inv .1) (c .before .is-finite .ensures ∙ ap finite v) (c .both .ensures))
+    (filled (l .inv .0) (search needs) v, every-next _ (l .k) (l .inv .1) (c .before .is-finite .ensures ∙ ap finite v) (c .both .ensures))
 
 same-length : tie.Need-same-length Inv-loop μ-loop
 same-length c = search needs

@@ -5,7 +5,7 @@ use Prim.Native.Nat.{_+_, _-_}
 use borrow.Author.Tests.{not-true, not-false}
 use Rattle.sheet_read.specs.Text.{byteAt}
 use Rattle.sheet_read.specs.Number.{isHex, doubleStands}
-use Rattle.sheet_read.proofs.Every.{Holds, start, on, fails, holds}
+use Rattle.meaning.proofs.Every.{Holds, start, on, fails, holds}
 use Rattle.sheet_read.proofs.has_double.Statement.{statement}
 use Rattle.sheet_read.proofs.has_double.Tie as tie
 

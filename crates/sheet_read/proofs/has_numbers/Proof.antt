@@ -5,7 +5,7 @@ use Prim.Native.Nat.{_-_}
 use borrow.Author.Tests.{not-true, not-false}
 use Rattle.sheet_read.specs.Number.{doubleStands}
 use Rattle.sheet_read.specs.Grammar.{byteAfter, numberPlace, numbersStand}
-use Rattle.sheet_read.proofs.Every.{Holds, start as start-of, on, fails, holds}
+use Rattle.meaning.proofs.Every.{Holds, start as start-of, on, fails, holds}
 use denote.Ref.{now}
 use Rattle.sheet_read.proofs.has_numbers.Statement.{statement}
 use Rattle.sheet_read.proofs.has_numbers.Tie as tie

@@ -6,7 +6,7 @@ use borrow.Author.Tests.{eq-eqb, ne-eqb}
 use lib.Dec.{eqb}
 use lib.ListN.{length}
 use Rattle.sheet_read.specs.Text.{byteAt, wordStands}
-use Rattle.sheet_read.proofs.Every.{Holds, start, on, fails, holds}
+use Rattle.meaning.proofs.Every.{Holds, start, on, fails, holds}
 use Rattle.sheet_read.proofs.has_word.Statement.{statement}
 use Rattle.sheet_read.proofs.has_word.Tie as tie
 

@@ -6,7 +6,7 @@ use lib.ListN.{length}
 use Rattle.meaning.specs.Scalar.{plain}
 use Rattle.solve.specs.Rows.{flat, ofRows}
 use Rattle.solve.specs.Elimination.{columnOk, eliminated, eliminatedOk}
-use Rattle.solve.proofs.Lists.{allBelow-none, allBelow-next}
+use Rattle.meaning.proofs.Every.{every-none, every-next}
 use Rattle.solve.proofs.Steps.{eliminated-none, eliminated-next, eliminated-shaped}
 use borrow.Author.Needs.{needs}
 use Rattle.solve.proofs.dense.eliminate.Statement.{statement}
@@ -22,7 +22,7 @@ loop-holds : tie.Need-loop-holds Inv-loop μ-loop
 unfolding eliminatedOk
 loop-holds c =
     let m = c .before .args .m in
-    (λ M rest e sh. (rw (eliminated-none plain m M) e, allBelow-none (λ k. columnOk plain m k (eliminated plain m k M))), search needs, refl)
+    (λ M rest e sh. (rw (eliminated-none plain m M) e, every-none (λ k. columnOk plain m k (eliminated plain m k M))), search needs, refl)
 
 eliminate-column-requires : tie.Need-eliminate-column-requires Inv-loop μ-loop
 eliminate-column-requires c κs = search needs
@@ -46,7 +46,7 @@ loop-again c =
           let old = l .inv .0 M rest e sh in
           let new = call .ensures (eliminated plain (a .m) (l .col) M) rest (old .0) (eliminated-shaped plain (a .m) (a .s) (l .col) M (l .inv .1) sh) in (
             rw (eliminated-next plain (a .m) (l .col) M) (new .0),
-            allBelow-next (λ k. columnOk plain (a .m) k (eliminated plain (a .m) k M)) (l .col) (old .1) (new .1) (c .both .ensures),
+            every-next (λ k. columnOk plain (a .m) k (eliminated plain (a .m) k M)) (l .col) (old .1) (new .1) (c .both .ensures),
           ),
       search needs,
       omega (arith, call .kept),

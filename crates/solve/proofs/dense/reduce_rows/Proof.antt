@@ -7,9 +7,11 @@ use mathlib.Core.List.{List, []}
 use lib.ListN.{length, getD}
 use lib.Ieee.{Float}
 use Rattle.meaning.specs.Scalar.{plain}
-use Rattle.solve.specs.Rows.{flat, Shaped, allBelow, ofRows}
+use Rattle.meaning.specs.Search.{every}
+use Rattle.solve.specs.Rows.{flat, Shaped, ofRows}
 use Rattle.solve.specs.Elimination.{reduced, reducedOk, reducedRows, reducedRowsOk, rowFine}
-use Rattle.solve.proofs.Lists.{blend, blend-all, allBelow-next}
+use Rattle.meaning.proofs.Every.{every-next}
+use Rattle.solve.proofs.Lists.{blend, blend-all}
 use Rattle.solve.proofs.Flat.{shaped-set}
 use Rattle.solve.proofs.Steps.{reduced-length, rows-length, rows-start, rows-read, rows-turn, rows-fine-start, rows-fine-at}
 use borrow.Author.Needs.{needs}
@@ -19,7 +21,7 @@ use Rattle.solve.proofs.dense.reduce_rows.Tie as tie
 -- the rows once the loop is at r: reduced below r, as they were from r on
 record Done (m n s col r : ℕ) (p : List Float) (M : List (List Float)) (rest w : List Float) (fine : Bool) : Type 0 where
   rows : w ≡ flat (blend r (reducedRows plain m n col p M) M) rest
-  verdict : fine ≡ allBelow r (rowFine plain n col p M)
+  verdict : fine ≡ every r (rowFine plain n col p M)
   shape : Shaped m s (blend r (reducedRows plain m n col p M) M)
 
 abbrev Inv-loop : tie.InvT-loop
@@ -72,7 +74,7 @@ loop-again c =
           let turn = rows-turn plain (a .n) (a .col) (a .p .now) (a .m) M (l .r) (l .inv .1) t (sh .count) in
           record {
             rows = new .0 ∙ ap (λ (K : List (List Float)). flat K rest) turn;
-            verdict = allBelow-next (rowFine plain (a .n) (a .col) (a .p .now) M) (l .r) (old .verdict)
+            verdict = every-next (rowFine plain (a .n) (a .col) (a .p .now) M) (l .r) (old .verdict)
                 (new .1 ∙ ap (reducedOk plain (a .n) (a .col) (a .p .now)) row ∙ rows-fine-at plain (a .n) (a .col) (a .p .now) (a .m) M (l .r) (l .inv .1)) (c .both .ensures);
             shape = rw turn at (shaped-set (l .r) (reduced plain (a .n) (a .col) (a .p .now) (getD N (l .r) [])) (old .shape) t
                 (reduced-length plain (a .n) (a .col) (a .p .now) (getD N (l .r) []) ∙ old .shape .each (l .r) t));
@@ -94,7 +96,7 @@ returns c =
     λ M rest q sh.
     let done = l .inv .0 M rest q sh in (
       done .rows ∙ ap (λ (N : List (List Float)). flat N rest) (blend-all (reducedRows plain (a .m) (a .n) (a .col) (a .p .now) M) M (l .r) (rows-length plain (a .n) (a .col) (a .p .now) (a .m) M ∙ sym (sh .count)) (omega (arith, sh .count))),
-      done .verdict ∙ ap (λ (n : ℕ). allBelow n (rowFine plain (a .n) (a .col) (a .p .now) M)) e,
+      done .verdict ∙ ap (λ (n : ℕ). every n (rowFine plain (a .n) (a .col) (a .p .now) M)) e,
     )
 
 pub reduce-rows-spec : {M : Type 1} → statement M

@@ -6,7 +6,7 @@ use lib.ListN.{length}
 use Rattle.meaning.specs.Scalar.{plain}
 use Rattle.solve.specs.Rows.{flat, ofRows}
 use Rattle.solve.specs.Substitution.{answeredUpOk, backed, backedOk}
-use Rattle.solve.proofs.Lists.{allBelow-none, allBelow-next}
+use Rattle.meaning.proofs.Every.{every-none, every-next}
 use Rattle.solve.proofs.Answers.{backed-none, backed-next, backed-shaped}
 use borrow.Author.Needs.{needs}
 use Rattle.solve.proofs.dense.substitute.Statement.{statement}
@@ -22,7 +22,7 @@ loop-holds : tie.Need-loop-holds Inv-loop μ-loop
 unfolding backedOk
 loop-holds c =
     let m = c .before .args .m in
-    (λ M rest e sh. (rw (backed-none plain m M) e, allBelow-none (λ k. answeredUpOk plain m k (backed plain m k M))), search needs, refl)
+    (λ M rest e sh. (rw (backed-none plain m M) e, every-none (λ k. answeredUpOk plain m k (backed plain m k M))), search needs, refl)
 
 sub-r : tie.Need-sub-r Inv-loop μ-loop
 sub-r c = search needs
@@ -52,7 +52,7 @@ loop-again c =
           let old = l .inv .0 M rest e sh in
           let new = call .ensures (backed plain (a .m) (l .i) M) rest (old .0) (backed-shaped plain (a .m) (a .s) (l .i) M (l .inv .1) sh) in (
             rw (backed-next plain (a .m) (l .i) M) (new .0),
-            allBelow-next (λ k. answeredUpOk plain (a .m) k (backed plain (a .m) k M)) (l .i) (old .1) (new .1) (c .both .ensures),
+            every-next (λ k. answeredUpOk plain (a .m) k (backed plain (a .m) k M)) (l .i) (old .1) (new .1) (c .both .ensures),
           ),
       search needs,
       omega (arith, call .kept),

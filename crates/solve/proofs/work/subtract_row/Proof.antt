@@ -6,16 +6,17 @@ use mathlib.Core.Bool.{not, Bool·not-not}
 use lib.ListN.{length}
 use lib.Ieee.Scale.{finite}
 use Rattle.meaning.specs.Scalar.{plain}
-use Rattle.solve.specs.Rows.{allBelow}
+use Rattle.meaning.specs.Search.{every}
 use Rattle.solve.specs.Elimination.{subtracted, subtractedOk, fineAt}
-use Rattle.solve.proofs.Lists.{blend, blend-all, spoilt-next}
+use Rattle.meaning.proofs.Every.{spoilt-next}
+use Rattle.solve.proofs.Lists.{blend, blend-all}
 use Rattle.solve.proofs.Steps.{sub-length, sub-start, sub-value, sub-turn, fine-start, fine-at}
 use borrow.Author.Needs.{needs}
 use Rattle.solve.proofs.work.subtract_row.Statement.{statement}
 use Rattle.solve.proofs.work.subtract_row.Tie as tie
 
 abbrev Inv-loop : tie.InvT-loop
-Inv-loop t₀ p n col f spoilt₀ end k₀ t spoilt k = (t ≡ blend k (subtracted plain n col f p t₀) t₀) × (spoilt ≡ not (allBelow k (fineAt plain n col f p t₀))) × (col ≤ k) × (k ≤ length t₀) × (length t ≡ length t₀)
+Inv-loop t₀ p n col f spoilt₀ end k₀ t spoilt k = (t ≡ blend k (subtracted plain n col f p t₀) t₀) × (spoilt ≡ not (every k (fineAt plain n col f p t₀))) × (col ≤ k) × (k ≤ length t₀) × (length t ≡ length t₀)
 
 abbrev μ-loop : tie.MeasureT-loop
 μ-loop t₀ p n col f spoilt₀ end k₀ t spoilt k = length t₀ - k
@@ -83,7 +84,7 @@ returns c =
     let e : l .k ≡ length (a .t .now) = omega (arith, c .before .before .before .before .pre) in
     let p = fineAt plain (a .n) (a .col) (a .f) (a .p .now) (a .t .now) in (
       l .inv .0 ∙ blend-all (subtracted plain (a .n) (a .col) (a .f) (a .p .now) (a .t .now)) (a .t .now) (l .k) (sub-length plain (a .n) (a .col) (a .f) (a .p .now) (a .t .now)) (search needs),
-      ap not (l .inv .1) ∙ Bool·not-not (allBelow (l .k) p) ∙ ap (λ (k : ℕ). allBelow k p) e,
+      ap not (l .inv .1) ∙ Bool·not-not (every (l .k) p) ∙ ap (λ (k : ℕ). every k p) e,
     )
 
 pub subtract-row-spec : {M : Type 1} → statement M

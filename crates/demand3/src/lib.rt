@@ -1,5 +1,5 @@
 // Demand 3 as a promise: evaluation, whose contract here says beside its answer that the point lies in its hull, and when it is never refused. The body is
-// `curve::evaluate` alone, of which the proof uses the contract and nothing else.
+// `point::evaluate` alone, of which the proof uses the contract and nothing else.
 ghost use mathlib.Core.Path.{_≡_};
 ghost use mathlib.Core.List.{_++_};
 ghost use lib.Dec.{T};
@@ -29,7 +29,7 @@ fn double(x: f64) -> bool
     x == x
 }
 
-// The point at t and its derivatives up to the order, as `curve::evaluate` answers them.
+// The point at t and its derivatives up to the order, as `point::evaluate` answers them.
 // Corresponds to 000 Curve::eval.
 pub fn evaluate(c: Curve, t: f64, order: usize, out: &mut [f64]) -> Refusal
     ensures answer { λ r. ⌜ Answer (recordRules c ++ pointRules (shapeOf c) t order (now (out .entry))) (pointOrders (shapeOf c) t order) (numbersFor order) (now (out .entry)) (r .number) (now (out .exit)) ⌝ }

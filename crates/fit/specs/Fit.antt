@@ -9,10 +9,11 @@ use lib.Ieee.{Float}
 use Rattle.meaning.specs.Scalar.{plain}
 use Rattle.meaning.specs.Refusals.{Row, row, firstOf}
 use Rattle.knots.specs.Span.{spanOf}
+use Rattle.solve.specs.declared.Solved.{Solved}
 use Rattle.solve.specs.Outcome.{Solution, solutionOf, workOf}
 use Rattle.curve.specs.declared.Curve.{Curve}
 use Rattle.curve.specs.declared.Built.{Built}
-use Rattle.curve.specs.Record.{someWild}
+use Rattle.curve.specs.Record.{someWild, emptyCurve}
 use Rattle.curve.specs.Build.{handleRules, controlRules, controlCurve, builtBy}
 use Rattle.fit.specs.Parameters.{fitParameter, fitKnots}
 use Rattle.fit.specs.System.{fitRow, fitRows, rowsOk}
@@ -52,6 +53,13 @@ curveThrough q =
 -- Refusal 15 is for a stored number that is not finite: a knot, a matrix number or a right side, or one that the solve stores. The steps are not stored.
 unfoldable pub allFine : List Float → Bool
 allFine q = not (someWild (knotsThrough q) 70) && (rowsOk plain (controlsFor q) (rowThrough q) && solutionThrough q .fine)
+
+-- what is answered by that rule, for m control points that a solve answered, the knots us and the verdict on the rows
+abbrev pub curveWith : ℕ → List Float → Bool → Solved → Built
+curveWith m us stored s =
+    cond (not (someWild us 70) && (stored && s .fine))
+    (record { refusal = record { number = 0 }; curve = record { points = m; «knot_count» = m + 4; xs = s .xs; ys = s .ys; knots = us } })
+    (record { refusal = record { number = 15 }; curve = emptyCurve })
 
 -- The rules, 14 of which is that a lent slice is short: the work buffer, or one for the answer.
 abbrev pub roomRules : List Float → Bool → List Float → Bool → List Row

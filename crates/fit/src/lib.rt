@@ -1,6 +1,6 @@
 // Curves through points: the parameters and knots, the system of the control points, and the build of both forms.
 ghost use mathlib.Core.Path.{_≡_};
-ghost use mathlib.Core.Bool.{true, not};
+ghost use mathlib.Core.Bool.{not, _||_};
 ghost use mathlib.Core.List.{[], _∷_};
 ghost use Prim.Native.Nat.{_+_, _-_, _*_, _/_, _≤_, _<_};
 ghost use lib.ListN.{length};
@@ -10,17 +10,19 @@ ghost use Rattle.meaning.specs.Table.{at1};
 ghost use Rattle.meaning.specs.Refusals.{row};
 ghost use Rattle.meaning.specs.Search.{listed};
 ghost use Rattle.meaning.proofs.Filling.{Filled};
+ghost use Rattle.buffer.specs.Pasted.{pasted};
 ghost use Rattle.plane.specs.View.{view};
 ghost use Rattle.solve.specs.Outcome.{workOf};
-ghost use Rattle.fit.specs.Parameters.{pointAt, stepAt, sumOf, parameterAt, knotAt, knotsBy};
+ghost use Rattle.fit.specs.Parameters.{pointAt, stepAt, sumOf, parameterAt, knotAt, knotsBy, fitParameter};
 ghost use Rattle.fit.specs.System.{spread, withSides};
 ghost use Rattle.fit.specs.Stored.{foundRow, foundFitRow, foundFitRows, Stored, StoredAt, StoredAll};
-ghost use Rattle.fit.specs.Fit.{pointsIn, controlsFor, workFor, curveThrough, allFine, workShort, fitRules, workAfter, buildRules, curveOf, workOfBuild, AnswerCurve};
+ghost use Rattle.fit.specs.Fit.{pointsIn, controlsFor, workFor, curveThrough, allFine, curveWith, workShort, fitRules, workAfter, buildRules, curveOf, workOfBuild, AnswerCurve};
 ghost use Rattle.fit.specs.Slices.{inTurn, roomShort, AnswerFit};
 use curve::Built;
 use curve::Curve;
 use knots::Refusal;
 use plane::P2;
+use solve::Solved;
 
 // ---- the parameters and the knots
 
@@ -87,6 +89,15 @@ fn parameters(s: &[f64; 64], n: usize) -> [f64; 64]
     }
     p[last] = 1.0;
     p
+}
+
+// The same of the points themselves.
+fn fit_parameters(q: &[f64], n: usize) -> [f64; 64]
+    requires { ⌜ (2 ≤ n) × (n ≤ 64) ⌝ ∗ ⌜ 2 * n ≤ length (now q) ⌝ }
+    ensures { λ r. ⌜ Filled (fitParameter plain (now (q .entry)) n) nan 64 n r ⌝ }
+{
+    let s = steps(q, n);
+    parameters(&s, n)
 }
 
 // Knot j of the curve through n points with these parameters.
@@ -230,30 +241,17 @@ fn fill<'a>(w: &mut [f64], u: &'a [f64; 70], p: &'a [f64; 64], q: &'a [f64], n: 
 
 // ---- the build
 
-// The curve through points that the rules 1 to 14 let through, or refusal 15.
-// Corresponds to 000 Curve::interpolate.
-fn interpolate(q: &[f64], work: &mut [f64]) -> Built
-    requires { ⌜ (2 ≤ pointsIn (now q)) × (pointsIn (now q) ≤ 64) × (workFor (now q) ≤ length (now work)) ⌝ }
-    ensures { λ r. ⌜ AnswerCurve (row 15 (not (allFine (now (q .entry)))) ∷ []) (curveThrough (now (q .entry))) (workOf (controlsFor (now (q .entry))) (now (work .entry))) r (now (work .exit)) ⌝ }
+// The curve of m control points that were solved for, with the knots u, or refusal 15. `stored` is the verdict on the system.
+fn curve_with(m: usize, u: [f64; 70], stored: bool, s: Solved) -> Built
+    requires { ⌜ m ≤ 66 ⌝ }
+    ensures { λ r. ⌜ r ≡ curveWith m u stored s ⌝ }
 {
-    let n = q.len() / 2;
-    let m = n + 2;
-    let s = steps(q, n);
-    let p = parameters(&s, n);
-    let u = knots_by(&p, n);
-    let stored = fill(work, &u, &p, q, n);
-    let solved = solve::solve(work, m);
-    if curve::first_wild(&u, 70) < 70 {
+    let wild = curve::first_wild(&u, 70) < 70;
+    if !number::both(!wild, number::both(stored, s.fine)) {
         return curve::refused(15);
     }
-    if !stored {
-        return curve::refused(15);
-    }
-    if !solved.fine {
-        return curve::refused(15);
-    }
-    let xs = solved.xs;
-    let ys = solved.ys;
+    let xs = s.xs;
+    let ys = s.ys;
     Built {
         refusal: Refusal { number: 0 },
         curve: Curve {
@@ -266,16 +264,30 @@ fn interpolate(q: &[f64], work: &mut [f64]) -> Built
     }
 }
 
-// The curve through fit points x, y in turn, by the rules for them.
-fn build_fit(q: &[f64], given: bool, knots: &[f64], work: &mut [f64]) -> Built
-    ensures { λ r. ⌜ AnswerCurve (fitRules (now (q .entry)) given (now (knots .entry)) (workShort (now (q .entry)) (now (work .entry)))) (curveThrough (now (q .entry))) (workAfter (now (q .entry)) given (now (knots .entry)) (workShort (now (q .entry)) (now (work .entry))) (now (work .entry))) r (now (work .exit)) ⌝ }
+// The curve through points that the rules 1 to 14 let through, or refusal 15.
+// Corresponds to 000 Curve::interpolate.
+fn interpolate(q: &[f64], work: &mut [f64]) -> Built
+    requires { ⌜ (2 ≤ pointsIn (now q)) × (pointsIn (now q) ≤ 64) × (workFor (now q) ≤ length (now work)) ⌝ }
+    ensures { λ r. ⌜ AnswerCurve (row 15 (not (allFine (now (q .entry)))) ∷ []) (curveThrough (now (q .entry))) (workOf (controlsFor (now (q .entry))) (now (work .entry))) r (now (work .exit)) ⌝ }
+{
+    let n = q.len() / 2;
+    let p = fit_parameters(q, n);
+    let u = knots_by(&p, n);
+    let stored = fill(work, &u, &p, q, n);
+    let s = solve::solve(work, n + 2);
+    curve_with(n + 2, u, stored, s)
+}
+
+// The curve through fit points x, y in turn, by the rules for them. `short` tells whether a slice for the answer is short.
+fn build_fit(q: &[f64], given: bool, knots: &[f64], short: bool, work: &mut [f64]) -> Built
+    ensures { λ r. ⌜ AnswerCurve (fitRules (now (q .entry)) given (now (knots .entry)) (workShort (now (q .entry)) (now (work .entry)) || short)) (curveThrough (now (q .entry))) (workAfter (now (q .entry)) given (now (knots .entry)) (workShort (now (q .entry)) (now (work .entry)) || short) (now (work .entry))) r (now (work .exit)) ⌝ }
 {
     let r = curve::refused_handles(q, true, given, knots);
     if r.number != 0 {
         return curve::refused(r.number);
     }
     let m = q.len() / 2 + 2;
-    if work.len() < m * (m + 2) {
+    if number::either(work.len() < m * (m + 2), short) {
         return curve::refused(14);
     }
     interpolate(q, work)
@@ -288,7 +300,7 @@ pub fn build(coords: &[f64], fit: bool, given: bool, knots: &[f64], work: &mut [
     ensures { λ r. ⌜ AnswerCurve (buildRules fit (now (coords .entry)) given (now (knots .entry)) (now (work .entry))) (curveOf fit (now (coords .entry)) given (now (knots .entry))) (workOfBuild fit (now (coords .entry)) given (now (knots .entry)) (now (work .entry))) r (now (work .exit)) ⌝ }
 {
     if fit {
-        return build_fit(coords, given, knots, work);
+        return build_fit(coords, given, knots, false, work);
     }
     curve::build_control(coords, given, knots)
 }
@@ -296,9 +308,9 @@ pub fn build(coords: &[f64], fit: bool, given: bool, knots: &[f64], work: &mut [
 // ---- the same answered in slices
 
 // The control points x, y in turn.
-fn in_turn<'a>(xs: &'a [f64; 66], ys: &'a [f64; 66], n: usize) -> [f64; 132]
+fn in_turn(xs: [f64; 66], ys: [f64; 66], n: usize) -> [f64; 132]
     requires { ⌜ n ≤ 66 ⌝ }
-    ensures { λ r. ⌜ r ≡ inTurn n (now (xs .entry)) (now (ys .entry)) ⌝ }
+    ensures { λ r. ⌜ r ≡ inTurn n xs ys ⌝ }
 {
     let mut a = [0.0; 132];
     for i in 0..n {
@@ -306,6 +318,25 @@ fn in_turn<'a>(xs: &'a [f64; 66], ys: &'a [f64; 66], n: usize) -> [f64; 132]
         a[2 * i + 1] = ys[i];
     }
     a
+}
+
+// The control points of a curve into a slice.
+fn put_points(c: Curve, out: &mut [f64])
+    requires { ⌜ c .points ≤ 66 ⌝ }
+    ensures { λ _. ⌜ now (out .exit) ≡ pasted (inTurn (c .points) (c .xs) (c .ys)) (2 * c .points) (now (out .entry)) 0 ⌝ }
+{
+    let xs = c.xs;
+    let ys = c.ys;
+    let points = in_turn(xs, ys, c.points);
+    buffer::put(&points, 2 * c.points, out, 0);
+}
+
+// Its knots into a slice.
+fn put_knots(c: Curve, out: &mut [f64])
+    ensures { λ _. ⌜ now (out .exit) ≡ pasted (c .knots) (c .«knot_count») (now (out .entry)) 0 ⌝ }
+{
+    let u = c.knots;
+    buffer::put(&u, c.knot_count, out, 0);
 }
 
 // The fit with its control points in control and its knots in knots_out.
@@ -319,26 +350,11 @@ pub fn build_fit_slices(
 ) -> Refusal
     ensures { λ r. ⌜ AnswerFit (fitRules (now (q .entry)) given (now (knots .entry)) (roomShort (now (q .entry)) (now (work .entry)) (now (control .entry)) (now («knots_out» .entry)))) (curveThrough (now (q .entry))) (workAfter (now (q .entry)) given (now (knots .entry)) (roomShort (now (q .entry)) (now (work .entry)) (now (control .entry)) (now («knots_out» .entry))) (now (work .entry))) (now (control .entry)) (now («knots_out» .entry)) (r .number) (now (control .exit)) (now («knots_out» .exit)) (now (work .exit)) ⌝ }
 {
-    let r = curve::refused_handles(q, true, given, knots);
-    if r.number != 0 {
-        return r;
-    }
     let m = q.len() / 2 + 2;
-    if work.len() < m * (m + 2) {
-        return Refusal { number: 14 };
-    }
-    if control.len() < 2 * m {
-        return Refusal { number: 14 };
-    }
-    if knots_out.len() < m + 4 {
-        return Refusal { number: 14 };
-    }
-    let b = interpolate(q, work);
-    if b.refusal.number != 0 {
-        return b.refusal;
-    }
-    let points = in_turn(&b.curve.xs, &b.curve.ys, m);
-    buffer::put(&points, 2 * m, control, 0);
-    buffer::put(&b.curve.knots, m + 4, knots_out, 0);
-    Refusal { number: 0 }
+    let short = number::either(control.len() < 2 * m, knots_out.len() < m + 4);
+    // A curve that is refused is empty: nothing is put.
+    let b = build_fit(q, given, knots, short, work);
+    put_points(b.curve, control);
+    put_knots(b.curve, knots_out);
+    b.refusal
 }

@@ -10,7 +10,7 @@ use borrow.Author.Tests.{ltb-true, ltb-false, leb-true, leb-false, eqb-true, lt-
 use lib.Dec.{ltb, leb, eqb}
 use lib.Ieee.{Float, nan, inf, fin, up, down, below, level, lt, eq, le, isNan}
 use lib.Ieee.Fits.{down-pos}
-use Rattle.meaning.proofs.Tests.{no}
+use Rattle.meaning.proofs.Tests.{no, or-false}
 
 -- ---- tests
 
@@ -204,10 +204,6 @@ module _ (D K : ℕ) (dp : 0 < D) (kp : 0 < K) where
   eq-sized (inf s) nan a b p q = absurd q
   eq-sized (fin s m e) nan a b p q = absurd q
   eq-sized (inf s) (inf t) a b p q = rw (eq-eqb a b (p ∙ sym q), ne-eqb a 0 (λ z. omega arith)) (sym (or-false (Bool·beq s t)))
-    where
-      or-false : (b : Bool) → b || false ≡ b
-      or-false true = refl
-      or-false false = refl
   eq-sized (inf s) (fin t n d) a b p q = rw (ne-eqb a b (λ z. omega arith))
   eq-sized (fin s m e) (inf t) a b p q = rw (ne-eqb a b (λ z. omega arith))
   eq-sized (fin s m e) (fin t n d) a b p q =

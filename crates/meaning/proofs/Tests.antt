@@ -29,3 +29,7 @@ or-left false b h = refl
 pub or-right : (a b : Bool) → a || b ≡ false → b ≡ false
 or-right true b h = no (sym h)
 or-right false b h = h
+
+pub or-false : (b : Bool) → b || false ≡ b
+or-false true = refl
+or-false false = refl

@@ -13,7 +13,7 @@ use Rattle.meaning.proofs.Tests.{by-two}
 use Rattle.curve.specs.Record.{emptyCurve}
 use Rattle.curve.specs.Build.{handleRules}
 use Rattle.fit.specs.Fit.{fitRules, workShort, buildRules, curveOf}
-use Rattle.fit.proofs.Asked.{fit-room, work-small, handles-refused}
+use Rattle.fit.proofs.Asked.{fit-room, work-small, handles-decide}
 use Rattle.sheet_read.specs.declared.Sheet.{Sheet}
 use Rattle.sheet_read.specs.Grammar.{sheetOf}
 use Rattle.sheet_text.specs.Printed.{refusalText}
@@ -29,7 +29,7 @@ fit-same q given ks work h =
     ap (λ (b : Bool). firstOf (fitRules q given ks b)) (le-ltb (length work) _ (le-trans (work-small q (room .1)) h)))
     (λ e.
     let no = eqb-false (firstOf (handleRules q true given ks)) 0 e in
-    sym (handles-refused q given ks (workShort q work) work refl no) ∙ handles-refused q given ks false work refl no)
+    handles-decide q given ks (workShort q work) no ∙ sym (handles-decide q given ks false no))
 
 module _ (work work′ : List Float) (h : 4488 ≤ length work) (h′ : 4488 ≤ length work′) where
   build-same : (fit : Bool) (q : List Float) (given : Bool) (ks : List Float) → firstOf (buildRules fit q given ks work) ≡ firstOf (buildRules fit q given ks work′)

@@ -1,4 +1,4 @@
--- `demand3::evaluate` meets its contract: `curve::evaluate` has an answer that its contract allows, and `Promised` has the rest.
+-- `demand3::evaluate` meets its contract: `point::evaluate` has an answer that its contract allows, and `Promised` has the rest.
 use mathlib.Core.Path.{subst}
 use Prim.Native.Nat.{ℕ}
 use denote.Ref.{now}

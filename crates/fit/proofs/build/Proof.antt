@@ -1,5 +1,8 @@
 -- `fit::build` meets its contract.
 use mathlib.Core.Path.{refl}
+use denote.Ref.{now}
+use Rattle.meaning.proofs.Tests.{or-false}
+use Rattle.fit.proofs.Asked.{short-as}
 use borrow.Author.Needs.{needs}
 use Rattle.fit.proofs.build.Statement.{statement}
 use Rattle.fit.proofs.build.Tie as tie
@@ -11,7 +14,9 @@ same-length : tie.Need-same-length
 same-length c = search needs
 
 returns : tie.Need-returns
-returns c = rw (c .before .before .before .before .if1 .taken) (c .before .before .build-fit .ensures)
+returns c =
+    let t = c .before .before .before .before in
+    rw (t .if1 .taken) (short-as _ _ _ (now (t .before .before .before .before .args .work)) _ _ (or-false _) (c .before .before .build-fit .ensures))
 
 build-control-requires : tie.Need-build-control-requires
 build-control-requires c κs = search needs

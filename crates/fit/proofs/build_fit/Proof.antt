@@ -1,11 +1,10 @@
 -- `fit::build_fit` meets its contract.
 use mathlib.Core.Path.{sym, _∙_}
 use native.Mathlib.Omega.{arith}
-use borrow.Author.Tests.{lt-ltb, le-ltb}
+use borrow.Author.Tests.{ltb-false}
 use denote.Ref.{now}
-use Rattle.fit.specs.Fit.{workShort}
-use Rattle.fit.proofs.Asked.{fit-room, work-small, handles-refused, handles-work, short-refused, short-work, fine-left, used-work}
-use Rattle.fit.proofs.Through.{answer-refused, answer-same}
+use Rattle.meaning.proofs.Tests.{or-left}
+use Rattle.fit.proofs.Asked.{fit-room, work-small, handles-refused, short-refused, none-refused, fit-refused, fit-left}
 use borrow.Author.Needs.{needs}
 use Rattle.fit.proofs.build_fit.Statement.{statement}
 use Rattle.fit.proofs.build_fit.Tie as tie
@@ -17,65 +16,48 @@ refused-requires : tie.Need-refused-requires
 refused-requires c κs = search needs
 
 returns : tie.Need-returns
-returns c =
-    let k = c .before .before .before in
-    let a = k .before .before .before .before .args in
-    let q = now (a .q) in
-    let short = workShort q (now (a .work)) in
-    answer-refused (c .refused .ensures) (handles-refused q (a .given) (now (a .knots)) short (now (a .work)) (k .refused-handles .ensures) (c .before .if1 .taken)) (c .before .if1 .taken)
-    (handles-work q (a .given) (now (a .knots)) short (now (a .work)) (k .refused-handles .ensures) (c .before .if1 .taken))
+returns c = fit-refused _ _ _ _ (c .refused .ensures) (handles-refused _ _ _ _ (c .before .before .before .refused-handles .ensures) (c .before .if1 .taken)) (c .before .if1 .taken)
 
 add-m : tie.Need-add-m
 add-m c = search needs
 
-add-if2 : tie.Need-add-if2
-add-if2 c = search needs
+add-either : tie.Need-add-either
+add-either c = search needs
 
-mul-if2 : tie.Need-mul-if2
-mul-if2 c =
+mul-either : tie.Need-mul-either
+mul-either c =
     let k = c .before .before in
     let a = k .before .before .before .before .args in
     let r = fit-room (now (a .q)) (a .given) (now (a .knots)) (sym (k .refused-handles .ensures) ∙ c .if1 .left) in
     omega (arith, work-small (now (a .q)) (r .1))
+
+either-requires : tie.Need-either-requires
+either-requires c κs = search needs
 
 refused-requires-2 : tie.Need-refused-requires-2
 refused-requires-2 c κs = search needs
 
 returns-2 : tie.Need-returns-2
 returns-2 c =
-    let t = c .before .before in
-    let k = t .before .before in
-    let a = k .before .before .before .before .args in
-    let q = now (a .q) in
-    let short = workShort q (now (a .work)) in
-    let passed = sym (k .refused-handles .ensures) ∙ t .if1 .left in
-    let h = lt-ltb _ _ (c .before .if2 .taken) in
-    answer-refused (c .refused2 .ensures) (short-refused q (a .given) (now (a .knots)) short (now (a .work)) passed h) (λ z. omega arith)
-    (short-work q (a .given) (now (a .knots)) short (now (a .work)) passed h)
+    let t = c .before .before .before in
+    fit-refused _ _ _ _ (c .refused2 .ensures)
+    (short-refused _ _ _ _ (sym (t .before .before .refused-handles .ensures) ∙ t .if1 .left) (sym (c .before .before .either .ensures) ∙ c .before .if2 .taken)) (λ z. omega arith)
 
 interpolate-requires : tie.Need-interpolate-requires
 interpolate-requires c κs =
-    let t = c .before .before in
-    let k = t .before .before in
-    let a = k .before .before .before .before .args in
-    let r = fit-room (now (a .q)) (a .given) (now (a .knots)) (sym (k .refused-handles .ensures) ∙ t .if1 .left) in
-    (r .0, r .1, c .before .if2 .left)
+    let t = c .before .before .before in
+    let r = fit-room _ _ _ (sym (t .before .before .refused-handles .ensures) ∙ t .if1 .left) in
+    (r .0, r .1, ltb-false _ _ (or-left _ _ (sym (c .before .before .either .ensures) ∙ c .before .if2 .left)))
 
 same-length : tie.Need-same-length
 same-length c = search needs
 
 returns-3 : tie.Need-returns-3
 returns-3 c =
-    let s = c .before .before .before .before in
-    let t = s .before in
-    let k = t .before .before in
-    let a = k .before .before .before .before .args in
-    let q = now (a .q) in
-    let short = workShort q (now (a .work)) in
-    let passed = sym (k .refused-handles .ensures) ∙ t .if1 .left in
-    let h = le-ltb _ _ (s .if2 .left) in
-    answer-same (fine-left q (a .given) (now (a .knots)) short (now (a .work)) passed h) (used-work q (a .given) (now (a .knots)) short (now (a .work)) passed h)
-    (c .before .before .interpolate .ensures)
+    let i = c .before .before in
+    let s = i .before .before in
+    let t = s .before .before in
+    fit-left _ _ _ _ (now (t .before .before .before .before .before .before .args .work)) (none-refused _ _ _ _ (sym (t .before .before .refused-handles .ensures) ∙ t .if1 .left) (sym (s .before .either .ensures) ∙ s .if2 .left)) (i .interpolate .ensures)
 
 pub build-fit-spec : {M : Type 1} → statement M
 build-fit-spec =
@@ -85,8 +67,9 @@ build-fit-spec =
     refused-requires
     returns
     add-m
-    add-if2
-    mul-if2
+    add-either
+    mul-either
+    either-requires
     refused-requires-2
     returns-2
     interpolate-requires

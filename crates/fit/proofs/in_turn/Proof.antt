@@ -11,10 +11,10 @@ use Rattle.fit.proofs.in_turn.Statement.{statement}
 use Rattle.fit.proofs.in_turn.Tie as tie
 
 abbrev Inv-loop : tie.InvT-loop
-Inv-loop xs ys n a₀ i₀ a i = At 0 n (λ j l. set (set l (2 * j) (at1 plain xs j)) (2 * j + 1) (at1 plain ys j)) a₀ i a
+Inv-loop n xs ys a₀ i₀ a i = At 0 n (λ j l. set (set l (2 * j) (at1 plain xs j)) (2 * j + 1) (at1 plain ys j)) a₀ i a
 
 abbrev μ-loop : tie.MeasureT-loop
-μ-loop xs ys n a₀ i₀ a i = n - i
+μ-loop n xs ys a₀ i₀ a i = n - i
 
 loop-holds : tie.Need-loop-holds Inv-loop μ-loop
 loop-holds c = first (search needs)
@@ -22,8 +22,8 @@ loop-holds c = first (search needs)
 mul-a : tie.Need-mul-a Inv-loop μ-loop
 mul-a c = search needs
 
-element-copy-out-a : tie.Need-element-copy-out-a Inv-loop μ-loop
-element-copy-out-a c = search needs
+array-read-a : tie.Need-array-read-a Inv-loop μ-loop
+array-read-a c = search needs
 
 mul-a-2 : tie.Need-mul-a-2 Inv-loop μ-loop
 mul-a-2 c = search needs
@@ -37,8 +37,8 @@ array-write-a c = search needs
 mul-a-4 : tie.Need-mul-a-4 Inv-loop μ-loop
 mul-a-4 c = search needs
 
-element-copy-out-a-2 : tie.Need-element-copy-out-a-2 Inv-loop μ-loop
-element-copy-out-a-2 c = search needs
+array-read-a-2 : tie.Need-array-read-a-2 Inv-loop μ-loop
+array-read-a-2 c = search needs
 
 mul-a-5 : tie.Need-mul-a-5 Inv-loop μ-loop
 mul-a-5 c = search needs
@@ -59,7 +59,7 @@ loop-less : tie.Need-loop-less Inv-loop μ-loop
 loop-less c = search needs
 
 loop-again : tie.Need-loop-again Inv-loop μ-loop
-loop-again c = next (c .before .before .before .loop .inv) (search needs) refl
+loop-again c = next (c .before .loop .inv) (search needs) refl
 
 returns : tie.Need-returns Inv-loop μ-loop
 unfolding inTurn
@@ -73,12 +73,12 @@ in-turn-spec =
     μ-loop
     loop-holds
     mul-a
-    element-copy-out-a
+    array-read-a
     mul-a-2
     mul-a-3
     array-write-a
     mul-a-4
-    element-copy-out-a-2
+    array-read-a-2
     mul-a-5
     add-a
     mul-a-6

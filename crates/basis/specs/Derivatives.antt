@@ -9,7 +9,7 @@ use lib.IntN.{ℤ}
 use Rattle.meaning.specs.Scalar.{Ops, zero64, one64}
 use Rattle.meaning.specs.Loops.{run}
 use Rattle.meaning.specs.Table.{at1, at2}
-use Rattle.basis.specs.Columns.{below, columnAt, firstJ, endJ}
+use Rattle.columns.specs.Columns.{below, columnAt, firstJ, endJ}
 use Rattle.basis.specs.Triangle.{zeros}
 
 -- A2.3's two alternating rows `a[s1]` and `a[s2]`, and the sum `d`

@@ -1,4 +1,2 @@
-// The cubic B-spline basis on a span, with its derivatives: algorithm A2.3 of The NURBS Book on doubles, and its columns, which the copy on values
-// with partials shares.
-pub mod columns;
+// The cubic B-spline basis on a span, with its derivatives: algorithm A2.3 of The NURBS Book on doubles.
 pub mod plain;

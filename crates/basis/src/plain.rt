@@ -6,7 +6,6 @@ ghost use Rattle.basis.specs.Triangle.{cellOf, columnOf, triangleOf};
 ghost use Rattle.basis.specs.Derivatives.{firstPut, midPut, lastPut, firstCoef, midCoefs, lastCoef, orderOf, startCoefs};
 ghost use Rattle.basis.specs.Basis.{valuesOf, functionOf, functionsOf, scaledRow, scaled, basisOf};
 ghost use Rattle.basis.specs.View.{viewCell, view};
-use crate::columns;
 
 // What a turn of the table's inner loop makes: a knot difference, a basis value, and what the next turn adds to its own.
 struct Cell {

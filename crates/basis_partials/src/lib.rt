@@ -7,7 +7,6 @@ ghost use Rattle.basis.specs.Triangle.{cellOf, columnOf, triangleOf};
 ghost use Rattle.basis.specs.Derivatives.{firstPut, midPut, lastPut, firstCoef, midCoefs, lastCoef, orderOf, startCoefs};
 ghost use Rattle.basis.specs.Basis.{valuesOf, functionOf, functionsOf, scaledRow, scaled, derivativesOf};
 ghost use Rattle.basis_partials.specs.View.{viewCell, view};
-use basis::columns;
 use partials::Dv;
 
 // What a turn of the table's inner loop makes: a knot difference, a basis value, and what the next turn adds to its own.

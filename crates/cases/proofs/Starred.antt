@@ -17,16 +17,16 @@ use Rattle.partials.specs.declared.Dv.{Dv}
 use Rattle.partials.specs.Dual.{dual, partials, zipDv, mapDv, cstDv, varDv, divDv, rootDv}
 use Rattle.meaning.specs.Search.{seekFrom, listed, every}
 use Rattle.knots.specs.Rules.{count, knotRules}
-use Rattle.knots.specs.Uniform.{uniformAt, uniformOf}
-use Rattle.knots.specs.Span.{spanOf}
+use Rattle.uniform.specs.Uniform.{uniformAt, uniformOf}
+use Rattle.span.specs.Span.{spanOf}
 use Rattle.basis.specs.Triangle.{columnTurn, columnOf, sidesTurn, triangleOf}
 use Rattle.basis.specs.Derivatives.{firstCoef, midTurn, midCoefs, lastCoef, orderOf}
 use Rattle.basis.specs.Basis.{valuesOf, orderTurn, functionOf, functionsOf, scaledRow, scaleTurn, scaled, derivativesOf, basisOf}
 use Rattle.evaluate.specs.Point.{Shape, weighted, placed, insideOf, beyondOf, orderAt, ordersOf}
 use Rattle.solve.specs.Outcome.{solutionOf}
 use Rattle.point.specs.Evaluate.{pointOrders}
-use Rattle.measure.specs.Samples.{samplesOf}
-use Rattle.curve.specs.Record.{someWild}
+use Rattle.samples.specs.Samples.{samplesOf}
+use Rattle.answer.specs.Answer.{someWild}
 use Rattle.curve.specs.Build.{handleRules}
 use Rattle.fit.specs.Parameters.{parameterAt, knotAt, knotsBy}
 use Rattle.fit.specs.System.{spread, withSides, rowOk, rowsOk, rowAt, rowOf, fitRow, fitRows}

@@ -11,7 +11,7 @@ use Rattle.meaning.specs.Loops.{turns, run}
 use Rattle.meaning.specs.Search.{listed}
 use Rattle.plane.specs.Vector.{Vector}
 use Rattle.evaluate.specs.Point.{Shape}
-use Rattle.measure.specs.Samples.{pairSamples, samplesOf}
+use Rattle.samples.specs.Samples.{pairSamples, samplesOf}
 use Rattle.closest.specs.Search.{through, to, sampled, unsampled, nearestSample}
 use Rattle.closest.specs.declared.Nearest.{Nearest}
 

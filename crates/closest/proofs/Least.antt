@@ -15,7 +15,7 @@ use Rattle.meaning.proofs.Order.{le-refl, lt-le, lt-trans, lt-le-trans, lt-not-
 use Rattle.meaning.proofs.Tests.{by-two, and-left, and-right, no}
 use Rattle.plane.specs.Vector.{Vector}
 use Rattle.evaluate.specs.Point.{Shape}
-use Rattle.measure.specs.Samples.{pairSamples, samplesOf}
+use Rattle.samples.specs.Samples.{pairSamples, samplesOf}
 use Rattle.closest.specs.Search.{through, to, distanceAt, sampled, unsampled, nearestSample}
 use Rattle.closest.specs.declared.Nearest.{Nearest}
 

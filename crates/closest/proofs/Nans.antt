@@ -14,8 +14,8 @@ use Rattle.meaning.specs.Loops.{turns, spin}
 use Rattle.meaning.specs.Number.{sizeOf, clampOf}
 use Rattle.meaning.specs.Refusals.{row, firstOf}
 use Rattle.meaning.proofs.Order.{lt-nan}
-use Rattle.knots.specs.Span.{spanOf}
-use Rattle.knots.proofs.Spans.{span-nan}
+use Rattle.span.specs.Span.{spanOf}
+use Rattle.span.proofs.Spans.{span-nan}
 use Rattle.basis.specs.Triangle.{columnTurn, columnOf, sidesTurn, triangleOf}
 use Rattle.basis.specs.Basis.{valuesOf, orderTurn, functionOf, functionsOf, scaledRow, scaleTurn, scaled, derivativesOf, basisOf}
 use Rattle.plane.specs.Vector.{Vector}

@@ -9,14 +9,14 @@ use lib.Ieee.Scale.{finite}
 use Rattle.meaning.specs.Scalar.{plain, zero64}
 use Rattle.meaning.specs.Table.{at1}
 use Rattle.meaning.specs.Number.{sizeOf, clampOf}
-use Rattle.knots.specs.Halving.{halvedOf}
+use Rattle.span.specs.Halving.{halvedOf}
 use Rattle.knots.proofs.Accepted.{Accepted}
-use Rattle.knots.proofs.Spans.{accepted-span}
+use Rattle.span.proofs.Spans.{accepted-span}
 use Rattle.plane.specs.Vector.{Vector, subV, dotV}
 use Rattle.evaluate.specs.Point.{Shape, ordersOf}
 use Rattle.evaluate.proofs.Places.{same-span}
 use Rattle.point.specs.Evaluate.{pointOrders}
-use Rattle.closest.specs.Distance.{distanceOf}
+use Rattle.distance.specs.Distance.{distanceOf}
 use Rattle.closest.specs.Search.{orderIn, still, from, to, distanceAt, sampled, slopeAt, roundOf}
 use Rattle.closest.specs.declared.Nearest.{Nearest}
 use Rattle.closest.specs.declared.Slope.{Slope}

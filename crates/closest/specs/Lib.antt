@@ -1,4 +1,3 @@
--- The closest parameter: the distance, the search, and what is answered.
-pub mod Distance
+-- The closest parameter: the search, and what is answered.
 pub mod Search
 pub mod Found

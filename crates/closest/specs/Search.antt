@@ -15,8 +15,8 @@ use Rattle.meaning.specs.Refusals.{Row, row}
 use Rattle.plane.specs.Vector.{Vector, subV, dotV}
 use Rattle.evaluate.specs.Point.{Shape}
 use Rattle.point.specs.Evaluate.{pointOrders}
-use Rattle.measure.specs.Samples.{samplesOf}
-use Rattle.closest.specs.Distance.{distanceOf}
+use Rattle.samples.specs.Samples.{samplesOf}
+use Rattle.distance.specs.Distance.{distanceOf}
 use Rattle.closest.specs.declared.Nearest.{Nearest}
 use Rattle.closest.specs.declared.Slope.{Slope}
 use Rattle.closest.specs.declared.Progress.{Progress}

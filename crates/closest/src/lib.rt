@@ -9,8 +9,7 @@ ghost use Rattle.knots.proofs.Accepted.{Accepted};
 ghost use Rattle.plane.specs.View.{view};
 ghost use Rattle.curve.specs.Record.{shapeOf, recordRules};
 ghost use Rattle.curve.specs.Build.{sliceShape, sliceRules};
-ghost use Rattle.measure.specs.Samples.{sampleAt, risingSamples};
-ghost use Rattle.closest.specs.Distance.{distanceOf};
+ghost use Rattle.samples.specs.Samples.{sampleAt, risingSamples};
 ghost use Rattle.closest.specs.Search.{through, sampled, nearestSample, slopeAt, roundOf, closestOf, newtonFrom, searchRules};
 ghost use Rattle.closest.specs.Found.{Answered};
 use curve::Curve;
@@ -20,15 +19,6 @@ use plane::P2;
 pub enum Found {
     At(f64),
     Refused(u64),
-}
-
-// The distance of a and b.
-// Corresponds to 000 the closure dist of closest_param, with the root in place of hypot.
-pub fn distance(a: P2, b: P2) -> f64
-    ensures { λ r. ⌜ r ≡ distanceOf (view a) (view b) ⌝ }
-{
-    let d = a.sub(b);
-    root::root(d.dot(d))
 }
 
 // ---- the samples
@@ -55,7 +45,7 @@ fn sample<'a>(
 {
     let at = evaluate::orders(u, n, xs, ys, t, 0);
     let c = P2 { x: at[0], y: at[1] };
-    let d = distance(c, p);
+    let d = distance::distance(c, p);
     let fine = number::both(b.fine, number::is_finite(d));
     if d < b.d {
         return Nearest { t, d, fine };

@@ -2,4 +2,3 @@
 pub mod Slices
 pub mod Answers
 pub mod Determined
-pub mod Placed

@@ -1,24 +1,19 @@
 -- How values cross between C and the library: as slices and counts. include/threshdune.h says the same in words.
 use mathlib.Core.Path.{_≡_}
-use Prim.Native.Nat.{ℕ, _+_, _*_, _/_, _%_, min}
-use mathlib.Core.Bool.{Bool, not, _&&_, _||_, cond}
+use Prim.Native.Nat.{ℕ, _+_, _*_, _/_, _%_}
+use mathlib.Core.Bool.{Bool, not, _||_, cond}
 use mathlib.Core.List.{List, [], _∷_}
-use lib.ListN.{length, getD, set, replicate}
+use lib.ListN.{length, getD, set}
 use lib.Dec.{ltb, eqb}
 use lib.Seq.{paste}
 use lib.Ieee.{Float}
 use Rattle.meaning.specs.Scalar.{zero64}
 use Rattle.meaning.specs.Loops.{run}
 use Rattle.meaning.specs.Table.{at2}
-use Rattle.buffer.specs.Pasted.{pasted}
 use Rattle.meaning.specs.Search.{listed}
 use Rattle.partials.specs.declared.Dv.{Dv}
 use Rattle.partials.specs.Dual.{partials, dual}
 use Rattle.plane.specs.Vector.{Vector}
-use Rattle.curve.specs.declared.Curve.{Curve}
-use Rattle.meaning.specs.Refusals.{Row}
-use Rattle.closest.specs.declared.Found.{Found}
-use Rattle.closest.specs.declared.Found.the-variants.{At, Refused}
 
 -- a flag crosses as a number: knots are given where it is not 0
 abbrev pub isGiven : ℕ → Bool
@@ -42,16 +37,6 @@ readV s ns = record { x = readDv s 0 (getD ns 0 0); y = readDv s 28 (getD ns 1 0
 unfoldable pub readSix : List Float → List ℕ → List Dv
 unfolding readDv
 readSix s ns = listed 0 6 (λ i. readDv s (28 * i) (getD ns i 0))
-
--- a room of k numbers: the first of s, as many as it takes, and +0.0
-unfoldable pub roomOf : ℕ → List Float → List Float
-unfolding pasted
-roomOf k s = pasted s (min (length s) k) (replicate k zero64) 0
-
--- a record: its two counts, whatever they are, and its three rooms
-unfoldable pub readCurve : ℕ → ℕ → List Float → List Float → List Float → Curve
-unfolding roomOf
-readCurve n k xs ys ks = record { points = n; «knot_count» = k; xs = roomOf 66 xs; ys = roomOf 66 ys; knots = roomOf 70 ks }
 
 -- ---- out: the refusal, and the lent slices before and after. Where there is no room it is 14 and they are as they were.
 
@@ -94,17 +79,3 @@ AnsweredB rows out ns = AnsweredTwo 560 20 (putValues rows out) (putCounts rows 
 pub record AnsweredP (a : Vector Float) (out : List Float) (refusal : ℕ) (out′ : List Float) : Type 0 where
   pub number : refusal ≡ cond (ltb (length out) 2) 14 0
   pub written : out′ ≡ cond (ltb (length out) 2) out (paste out 0 (a .x ∷ a .y ∷ []) 2)
-
--- a parameter, or the refusal of a search, where there is room for it; the refusals up to 14 do not ask for room
-abbrev pub foundNumber : Found → List Float → ℕ
-foundNumber (At t) out = cond (ltb (length out) 1) 14 0
-foundNumber (Refused k) out = cond (ltb (length out) 1 && ltb 14 k) 14 k
-
-abbrev pub foundInto : Found → List Float → List Float
-foundInto (At t) out = cond (ltb (length out) 1) out (paste out 0 (t ∷ []) 1)
-foundInto (Refused k) out = out
-
--- a table of refusals with one more row in its place, which its number says
-unfoldable pub placed : Row → List Row → List Row
-placed r [] = r ∷ []
-placed r (x ∷ rs) = cond (ltb (r .number) (x .number)) (r ∷ x ∷ rs) (x ∷ placed r rs)

@@ -1,14 +1,11 @@
-// How values cross between C and the library: read from slices that may be too short, and answered in slices that may have no room.
+// How numbers and values with partials cross between C and the library: read from slices that may be too short, and answered in slices that may have no room.
 ghost use mathlib.Core.Path.{_≡_};
 ghost use mathlib.Core.List.{_∷_};
-ghost use Prim.Native.Nat.{_+_, _≤_, min};
+ghost use Prim.Native.Nat.{_+_, _≤_};
 ghost use lib.ListN.{length, getD};
 ghost use lib.Seq.{paste};
 ghost use Rattle.plane.specs.View.{view, viewD};
-ghost use Rattle.buffer.specs.Pasted.{pasted};
-ghost use Rattle.crossing.specs.Crossing.{entryOf, readDv, readV, readSix, readCurve, putValues, putCounts, Answered, AnsweredV, AnsweredP, AnsweredB, foundNumber, foundInto};
-use closest::Found;
-use curve::Curve;
+ghost use Rattle.crossing.specs.Crossing.{entryOf, readDv, readV, readSix, putValues, putCounts, Answered, AnsweredV, AnsweredP, AnsweredB};
 use partials::Dv;
 use plane::P2;
 use plane::P2d;
@@ -76,36 +73,6 @@ pub fn read_six(s: &[f64], ns: &[u64]) -> [Dv; 6]
         w[i] = next;
     }
     w
-}
-
-// Puts the numbers of s into room, as many as it takes.
-fn fill(s: &[f64], room: &mut [f64])
-    ensures { λ _. ⌜ now (room .exit) ≡ pasted (now (s .entry)) (min (length (now (s .entry))) (length (now (room .entry)))) (now (room .entry)) 0 ⌝ }
-{
-    if s.len() <= room.len() {
-        buffer::put(s, s.len(), room, 0);
-        return;
-    }
-    buffer::put(s, room.len(), room, 0);
-}
-
-// The record with these counts and numbers, sound or not.
-pub fn read_curve(points: u64, knot_count: u64, xs: &[f64], ys: &[f64], knots: &[f64]) -> Curve
-    ensures { λ r. ⌜ r ≡ readCurve points «knot_count» (now (xs .entry)) (now (ys .entry)) (now (knots .entry)) ⌝ }
-{
-    let mut x = [0.0; 66];
-    fill(xs, &mut x);
-    let mut y = [0.0; 66];
-    fill(ys, &mut y);
-    let mut u = [0.0; 70];
-    fill(knots, &mut u);
-    Curve {
-        points: points as usize,
-        knot_count: knot_count as usize,
-        xs: x,
-        ys: y,
-        knots: u,
-    }
 }
 
 // Puts the numbers of d into out from index at on.
@@ -183,27 +150,4 @@ pub fn answer_rows(rows: [[Dv; 4]; 5], out: &mut [f64], counts: &mut [u64]) -> u
     }
     write_rows(rows, out, counts);
     0
-}
-
-// Answers a parameter: 14 where out has no room for it, which comes before a refusal above that.
-pub fn answer_found(found: Found, out: &mut [f64]) -> u64
-    ensures { λ r. ⌜ r ≡ foundNumber found (now (out .entry)) ⌝ ∗ ⌜ now (out .exit) ≡ foundInto found (now (out .entry)) ⌝ }
-{
-    match found {
-        Found::At(t) => {
-            if out.len() < 1 {
-                return 14;
-            }
-            out[0] = t;
-            0
-        }
-        Found::Refused(k) => {
-            if k > 14 {
-                if out.len() < 1 {
-                    return 14;
-                }
-            }
-            k
-        }
-    }
 }

@@ -15,11 +15,12 @@ use Rattle.knots.specs.Rules.{knotRules}
 use Rattle.knots.proofs.Accepted.{Accepted, accepted}
 use Rattle.knots.proofs.Refused.{row-passed, handles-passed}
 use Rattle.curve.specs.declared.Curve.{Curve}
-use Rattle.curve.specs.Record.{someWild, emptyCurve}
-use Rattle.curve.specs.Build.{storedKnots, handleRules, sliceRules, storedRules, controlRules, builtBy}
+use Rattle.curve.specs.Record.{emptyCurve}
+use Rattle.answer.specs.Answer.{someWild}
+use Rattle.curve.specs.Build.{storedKnots, handleRules, sliceRules, builtBy}
 use Rattle.meaning.proofs.Rows.{numbered, row-applies, row-passes, second-decides, first-decides, both-pass}
 use Rattle.curve.proofs.Trusted.{numbered-knots}
-use Rattle.curve.proofs.Doors.{put-all}
+use Rattle.answer.proofs.Doors.{put-all}
 
 -- the number of control points is in range, whether knots are given or not
 pub room-of : (n : ℕ) (given : Bool) (ks : List Float) → firstOf (knotRules n false given ks) ≡ 0 → (4 ≤ n) × (n ≤ 66)
@@ -79,25 +80,6 @@ module _ (coords : List Float) (fit given : Bool) (ks : List Float) where
   pub handles-tame : firstOf (handleRules coords fit given ks) ≡ 0 → someWild coords (length coords) ≡ false
   unfolding firstOf
   handles-tame h = row-passed (someWild coords (length coords)) 10 0 (handles-parts h .1) .0
-
--- ---- and the stored knots
-
-module _ (coords : List Float) (given : Bool) (ks : List Float) where
-  pub control-refused : {m : ℕ} → m ≡ firstOf (sliceRules coords given ks) → (m ≡ 0 → ⊥) → m ≡ firstOf (controlRules coords given ks)
-  unfolding controlRules
-  control-refused e h = e ∙ sym (first-decides _ _ (λ z. h (e ∙ z)))
-
-  module _ (passed : firstOf (sliceRules coords given ks) ≡ 0) where
-    knots-left : firstOf (controlRules coords given ks) ≡ firstOf (storedRules coords given ks)
-    unfolding controlRules
-    knots-left = second-decides _ _ (numbered-handles coords false given ks) passed
-
-    pub control-wild : someWild (storedKnots (length coords / 2) given ks) 70 ≡ true → 15 ≡ firstOf (controlRules coords given ks)
-    control-wild h = sym (knots-left ∙ row-applies (row 15 (someWild (storedKnots (length coords / 2) given ks) 70)) [] h)
-
-    pub control-tame : someWild (storedKnots (length coords / 2) given ks) 70 ≡ false → 0 ≡ firstOf (controlRules coords given ks)
-    unfolding firstOf
-    control-tame h = sym (knots-left ∙ row-passes (row 15 (someWild (storedKnots (length coords / 2) given ks) 70)) [] h)
 
 -- ---- knots in slices that the rules let through are accepted in their room, too
 

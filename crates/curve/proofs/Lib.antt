@@ -1,7 +1,4 @@
--- Numbers that are not finite, what a door answers, and what an accepted curve is.
-pub mod Wild
-pub mod Doors
+-- What an accepted curve is, and handles that the rules let through.
+pub mod Curves
 pub mod Trusted
 pub mod Assembled
-pub mod Rechecked
-pub mod Determined

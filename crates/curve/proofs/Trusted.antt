@@ -14,7 +14,8 @@ use Rattle.knots.specs.Rules.{knotRules}
 use Rattle.knots.proofs.Accepted.{Accepted, accepted}
 use Rattle.meaning.proofs.Tests.{by-two}
 use Rattle.curve.specs.declared.Curve.{Curve}
-use Rattle.curve.specs.Record.{someWild, countedKnots, recordRules}
+use Rattle.curve.specs.Record.{countedKnots, recordRules}
+use Rattle.answer.specs.Answer.{someWild}
 use Rattle.meaning.proofs.Rows.{numbered, second-decides, first-decides}
 
 pub numbered-knots : (n : ℕ) (fit given : Bool) (ks : List Float) → T (numbered (knotRules n fit given ks))

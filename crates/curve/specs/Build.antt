@@ -1,21 +1,21 @@
 -- A curve from control points. Document 01, the table of refusals and "Uniform knots", decides.
-use mathlib.Core.Bool.{Bool, true, false, not, _||_, cond}
+use mathlib.Core.Bool.{Bool, true, false, not, cond}
 use mathlib.Core.List.{List, [], _∷_, _++_}
 use Prim.Native.Nat.{ℕ, _+_, _*_, _/_, _%_}
 use lib.ListN.{length, set, replicate}
-use lib.Dec.{ltb, eqb}
+use lib.Dec.{eqb}
 use lib.Ieee.{Float}
 use Rattle.meaning.specs.Scalar.{plain, zero64}
 use Rattle.meaning.specs.Table.{at1}
 use Rattle.meaning.specs.Loops.{run}
 use Rattle.meaning.specs.Refusals.{Row, row, firstOf}
 use Rattle.knots.specs.Rules.{knotRules}
-use Rattle.knots.specs.Uniform.{uniformOf}
+use Rattle.uniform.specs.Uniform.{uniformOf}
 use Rattle.buffer.specs.Pasted.{pasted}
 use Rattle.evaluate.specs.Point.{Shape}
 use Rattle.curve.specs.declared.Curve.{Curve}
-use Rattle.curve.specs.Record.{shapeOf, someWild, emptyCurve}
-use Rattle.curve.specs.Answer.{Answer}
+use Rattle.curve.specs.Record.{shapeOf, emptyCurve}
+use Rattle.answer.specs.Answer.{someWild}
 
 -- coordinates stand x, y in turn: every second number from `off` on, n of them, in a room of 66
 unfoldable pub everyOther : List Float → ℕ → ℕ → List Float
@@ -44,27 +44,6 @@ handleRules coords fit given ks =
 abbrev pub sliceRules : List Float → Bool → List Float → List Row
 sliceRules coords given ks = handleRules coords false given ks
 
--- Refusal 15 is for a stored number that is not finite: rule 11 has judged the coordinates, so the knots are left.
-abbrev pub storedRules : List Float → Bool → List Float → List Row
-storedRules coords given ks = row 15 (someWild (storedKnots (length coords / 2) given ks) 70) ∷ []
-
-unfoldable pub controlRules : List Float → Bool → List Float → List Row
-unfolding handleRules
-controlRules coords given ks = sliceRules coords given ks ++ storedRules coords given ks
-
 -- what is built: the curve, or where a rule applies the empty curve
 abbrev pub builtBy : List Row → Curve → Curve
 builtBy rules c = cond (eqb (firstOf rules) 0) c emptyCurve
-
--- four knots more than control points
-abbrev pub knotsBuilt : List Float → ℕ
-knotsBuilt coords = length coords / 2 + 4
-
--- answered in two slices, the control points and the knots: room for both is asked for before the stored knots are judged
-abbrev pub intoRules : List Float → ℕ → List Float → List Float → List Float → List Row
-intoRules coords k us control out = row 14 (ltb (length control) (length coords) || ltb (length out) k) ∷ row 15 (someWild us 70) ∷ []
-
--- the control points, and the first k of the knots us
-pub record AnswerBuild (rules : List Row) (coords us : List Float) (k : ℕ) (control out : List Float) (number : ℕ) (control′ out′ : List Float) : Type 0 where
-  pub points : Answer rules coords (length coords) control number control′
-  pub knots : Answer rules us k out number out′

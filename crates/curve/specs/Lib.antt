@@ -1,4 +1,3 @@
--- The curve record, what a door answers, and the build from control points.
+-- The curve record, and its build from control points.
 pub mod Record
-pub mod Answer
 pub mod Build

@@ -1,18 +1,12 @@
 // Curves: the record with its re-check, and its build from control points.
 ghost use mathlib.Core.Path.{_≡_};
-ghost use mathlib.Core.Bool.{true, false, not};
-ghost use mathlib.Core.List.{_++_};
+ghost use mathlib.Core.Bool.{true, false};
 ghost use Prim.Native.Nat.{_+_, _*_, _/_, _≤_, _<_};
 ghost use lib.ListN.{length};
-ghost use lib.Ieee.Scale.{finite};
-ghost use Rattle.meaning.specs.Scalar.{plain};
-ghost use Rattle.meaning.specs.Table.{at1};
 ghost use Rattle.meaning.specs.Refusals.{firstOf};
-ghost use Rattle.meaning.specs.Search.{seek};
 ghost use Rattle.knots.specs.Rules.{knotRules};
 ghost use Rattle.curve.specs.Record.{emptyCurve, countedKnots, recordRules};
-ghost use Rattle.curve.specs.Answer.{deliveryRules, Answer};
-ghost use Rattle.curve.specs.Build.{everyOther, storedKnots, controlCurve, handleRules, sliceRules, controlRules, intoRules, AnswerBuild, knotsBuilt, builtBy};
+ghost use Rattle.curve.specs.Build.{everyOther, storedKnots, controlCurve, handleRules, sliceRules, builtBy};
 use knots::Refusal;
 
 // A cubic: `points` control points and `knot_count` knots, four more. What stands past the counts is +0.0 and not read.
@@ -31,21 +25,6 @@ pub struct Built {
 }
 
 // ---- the record
-
-// The first of the first k numbers that is not finite, or k.
-pub fn first_wild(a: &[f64], k: usize) -> usize
-    ensures { λ r. ⌜ r ≡ seek 0 k (λ i. not (finite (at1 plain (now (a .entry)) i))) ⌝ }
-{
-    for i in 0..k {
-        if i >= a.len() {
-            return i;
-        }
-        if !number::is_finite(a[i]) {
-            return i;
-        }
-    }
-    k
-}
 
 // Counts 0, all entries +0.0.
 fn empty() -> Curve
@@ -79,10 +58,10 @@ pub fn recheck(c: Curve) -> Refusal
     if r.number != 0 {
         return r;
     }
-    if first_wild(&c.xs, n) < n {
+    if answer::first_wild(&c.xs, n) < n {
         return Refusal { number: 11 };
     }
-    if first_wild(&c.ys, n) < n {
+    if answer::first_wild(&c.ys, n) < n {
         return Refusal { number: 11 };
     }
     Refusal { number: 0 }
@@ -112,7 +91,7 @@ fn stored(n: usize, given: bool, knots: &[f64]) -> [f64; 70]
         buffer::put(knots, n + 4, &mut u, 0);
         return u;
     }
-    knots::uniform(n)
+    uniform::uniform(n)
 }
 
 // A refusal, with the empty curve.
@@ -137,7 +116,7 @@ pub fn refused_handles(coords: &[f64], fit: bool, given: bool, knots: &[f64]) ->
     if r.number != 0 {
         return r;
     }
-    if first_wild(coords, coords.len()) < coords.len() {
+    if answer::first_wild(coords, coords.len()) < coords.len() {
         return Refusal { number: 11 };
     }
     Refusal { number: 0 }
@@ -166,79 +145,4 @@ pub fn assemble(coords: &[f64], given: bool, knots: &[f64]) -> Built
             knots: u,
         },
     }
-}
-
-// The curve of control points x, y in turn, over the knots if any are given, else over uniform ones.
-// Corresponds to 000 BSpline::from_control_points.
-pub fn build_control(coords: &[f64], given: bool, knots: &[f64]) -> Built
-    ensures { λ r. ⌜ r .refusal .number ≡ firstOf (controlRules (now (coords .entry)) given (now (knots .entry))) ⌝ }
-    ensures { λ r. ⌜ r .curve ≡ builtBy (controlRules (now (coords .entry)) given (now (knots .entry))) (controlCurve (now (coords .entry)) given (now (knots .entry))) ⌝ }
-{
-    let b = assemble(coords, given, knots);
-    if b.refusal.number != 0 {
-        return b;
-    }
-    if first_wild(&b.curve.knots, 70) < 70 {
-        return refused(15);
-    }
-    b
-}
-
-// The coordinates and the first k knots, in two slices.
-fn answer_build(
-    coords: &[f64],
-    u: [f64; 70],
-    k: usize,
-    control: &mut [f64],
-    knots_out: &mut [f64],
-) -> Refusal
-    requires { ⌜ k ≤ 70 ⌝ }
-    ensures { λ r. ⌜ AnswerBuild (intoRules (now (coords .entry)) k u (now (control .entry)) (now («knots_out» .entry))) (now (coords .entry)) u k (now (control .entry)) (now («knots_out» .entry)) (r .number) (now (control .exit)) (now («knots_out» .exit)) ⌝ }
-{
-    if control.len() < coords.len() {
-        return Refusal { number: 14 };
-    }
-    if knots_out.len() < k {
-        return Refusal { number: 14 };
-    }
-    if first_wild(&u, 70) < 70 {
-        return Refusal { number: 15 };
-    }
-    buffer::put(coords, coords.len(), control, 0);
-    buffer::put(&u, k, knots_out, 0);
-    Refusal { number: 0 }
-}
-
-// The build answered in slices: the control points into control, the knots into knots_out.
-pub fn build_control_slices(
-    coords: &[f64],
-    given: bool,
-    knots: &[f64],
-    control: &mut [f64],
-    knots_out: &mut [f64],
-) -> Refusal
-    ensures { λ r. ⌜ AnswerBuild (sliceRules (now (coords .entry)) given (now (knots .entry)) ++ intoRules (now (coords .entry)) (knotsBuilt (now (coords .entry))) (storedKnots (length (now (coords .entry)) / 2) given (now (knots .entry))) (now (control .entry)) (now («knots_out» .entry))) (now (coords .entry)) (storedKnots (length (now (coords .entry)) / 2) given (now (knots .entry))) (knotsBuilt (now (coords .entry))) (now (control .entry)) (now («knots_out» .entry)) (r .number) (now (control .exit)) (now («knots_out» .exit)) ⌝ }
-{
-    let b = assemble(coords, given, knots);
-    if b.refusal.number != 0 {
-        return b.refusal;
-    }
-    let u = b.curve.knots;
-    answer_build(coords, u, b.curve.knot_count, control, knots_out)
-}
-
-// ---- numbers answered in a lent slice
-
-// The first k of the numbers, where there is room for them and each is finite; a number that is not there is not.
-pub fn deliver(numbers: &[f64], k: usize, out: &mut [f64]) -> Refusal
-    ensures { λ r. ⌜ Answer (deliveryRules (now (numbers .entry)) k (now (out .entry))) (now (numbers .entry)) k (now (out .entry)) (r .number) (now (out .exit)) ⌝ }
-{
-    if out.len() < k {
-        return Refusal { number: 14 };
-    }
-    if first_wild(numbers, k) < k {
-        return Refusal { number: 15 };
-    }
-    buffer::put(numbers, k, out, 0);
-    Refusal { number: 0 }
 }

@@ -23,8 +23,8 @@ use Rattle.evaluate.specs.Point.{Shape}
 use Rattle.hull.specs.Asked.{AllDoubles, Coordinates, InDomain}
 use Rattle.hull.proofs.Theorems.{hull-answered, point-passes, written-is}
 use Rattle.curve.specs.declared.Curve.{Curve}
-use Rattle.curve.specs.Record.{shapeOf, someWild, countedKnots, recordRules}
-use Rattle.curve.specs.Answer.{Answer}
+use Rattle.curve.specs.Record.{shapeOf, countedKnots, recordRules}
+use Rattle.answer.specs.Answer.{someWild, Answer}
 use Rattle.point.specs.Evaluate.{pointOrders, numbersFor, pointRules}
 use Rattle.meaning.proofs.Rows.{numbered, second-decides, first-decides}
 use Rattle.curve.proofs.Trusted.{numbered-knots, numbered-record, trusted}

@@ -6,7 +6,7 @@ ghost use lib.Dec.{T};
 ghost use lib.Ieee.{binary64, fits};
 ghost use Rattle.hull.specs.Asked.{AllDoubles};
 ghost use Rattle.curve.specs.Record.{shapeOf, recordRules};
-ghost use Rattle.curve.specs.Answer.{Answer};
+ghost use Rattle.answer.specs.Answer.{Answer};
 ghost use Rattle.point.specs.Evaluate.{pointOrders, numbersFor, pointRules};
 ghost use Rattle.demand3.specs.Demand.{Bounded, PointInHull, Published};
 use curve::Curve;

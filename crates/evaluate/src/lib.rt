@@ -4,7 +4,7 @@ ghost use mathlib.Core.List.{[]};
 ghost use Prim.Native.Nat.{_+_, _≤_, _<_};
 ghost use lib.ListN.{getD};
 ghost use Rattle.meaning.specs.Scalar.{plain};
-ghost use Rattle.knots.specs.Halving.{halvedOf};
+ghost use Rattle.span.specs.Halving.{halvedOf};
 ghost use Rattle.plane.specs.View.{view};
 ghost use Rattle.evaluate.specs.Point.{weighted, placed, insideOf, beyondOf, ordersOf};
 ghost use Rattle.evaluate.specs.Straight.{straightOf};
@@ -56,7 +56,7 @@ fn inside<'a>(
     requires { ⌜ nd ≤ 4 ⌝ }
     ensures { λ r. ⌜ r ≡ placed plain (nd + 1) (insideOf plain (halvedOf (now (u .entry)) n) (record { n = n; xs = now (xs .entry); ys = now (ys .entry); knots = now (u .entry) }) t nd) ⌝ }
 {
-    let i = knots::span(u, n, t);
+    let i = span::span(u, n, t);
     let ders = basis::plain::basis(u, i, t, nd);
     combine(xs, ys, i, ders, nd)
 }

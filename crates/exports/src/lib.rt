@@ -12,17 +12,19 @@ ghost use Rattle.partials.specs.Dual.{dual, varDv, addDv, subDv, mulDv, divDv, 
 ghost use Rattle.plane.specs.Vector.{addV, subV, scaleV, dotV, normV, unitV};
 ghost use Rattle.basis.specs.Basis.{derivativesOf};
 ghost use Rattle.curve.specs.Record.{shapeOf, recordRules};
-ghost use Rattle.curve.specs.Answer.{Answer};
-ghost use Rattle.curve.specs.Build.{storedKnots, knotsBuilt, sliceShape, sliceRules, intoRules, AnswerBuild};
+ghost use Rattle.answer.specs.Answer.{Answer};
+ghost use Rattle.curve.specs.Build.{storedKnots, sliceShape, sliceRules};
+ghost use Rattle.control.specs.Control.{knotsBuilt, intoRules, AnswerBuild};
 ghost use Rattle.point.specs.Evaluate.{pointOrders, numbersFor, pointRules, tangentNumbers, tangentRules};
 ghost use Rattle.measure.specs.Length.{lengthOf, lengthRules, domainOf, domainRules};
-ghost use Rattle.measure.specs.Samples.{samplesOf, sampleRules, AnswerCounted};
+ghost use Rattle.samples.specs.Samples.{samplesOf, sampleRules, AnswerCounted};
 ghost use Rattle.fit.specs.Fit.{curveThrough, fitRules, workAfter};
-ghost use Rattle.fit.specs.Slices.{roomShort, AnswerFit};
+ghost use Rattle.fit_slices.specs.Slices.{roomShort, AnswerFit};
 ghost use Rattle.closest.specs.Search.{closestOf, searchRules};
 ghost use Rattle.meaning.specs.Refusals.{row};
 ghost use lib.Dec.{ltb};
-ghost use Rattle.crossing.specs.Crossing.{isGiven, readDv, readV, readSix, readCurve, Answered, AnsweredV, AnsweredP, AnsweredB, placed};
+ghost use Rattle.crossing.specs.Crossing.{isGiven, readDv, readV, readSix, Answered, AnsweredV, AnsweredP, AnsweredB};
+ghost use Rattle.crossing_curve.specs.Curves.{readCurve, placed};
 use partials::Dv;
 use plane::P2;
 
@@ -395,7 +397,7 @@ pub extern "C" fn threshdune_build_control(
 ) -> u64
     ensures { λ r. ⌜ AnswerBuild (sliceRules (now (coords .entry)) (isGiven given) (now (knots .entry)) ++ intoRules (now (coords .entry)) (knotsBuilt (now (coords .entry))) (storedKnots (length (now (coords .entry)) / 2) (isGiven given) (now (knots .entry))) (now (control .entry)) (now («knots_out» .entry))) (now (coords .entry)) (storedKnots (length (now (coords .entry)) / 2) (isGiven given) (now (knots .entry))) (knotsBuilt (now (coords .entry))) (now (control .entry)) (now («knots_out» .entry)) r (now (control .exit)) (now («knots_out» .exit)) ⌝ }
 {
-    let r = curve::build_control_slices(coords, given != 0, knots, control, knots_out);
+    let r = control::build_control_slices(coords, given != 0, knots, control, knots_out);
     r.number
 }
 
@@ -411,7 +413,7 @@ pub extern "C" fn threshdune_build_fit(
 ) -> u64
     ensures { λ r. ⌜ AnswerFit (fitRules (now (coords .entry)) (isGiven given) (now (knots .entry)) (roomShort (now (coords .entry)) (now (work .entry)) (now (control .entry)) (now («knots_out» .entry)))) (curveThrough (now (coords .entry))) (workAfter (now (coords .entry)) (isGiven given) (now (knots .entry)) (roomShort (now (coords .entry)) (now (work .entry)) (now (control .entry)) (now («knots_out» .entry))) (now (work .entry))) (now (control .entry)) (now («knots_out» .entry)) r (now (control .exit)) (now («knots_out» .exit)) (now (work .exit)) ⌝ }
 {
-    let r = fit::build_fit_slices(coords, given != 0, knots, work, control, knots_out);
+    let r = fit_slices::build_fit_slices(coords, given != 0, knots, work, control, knots_out);
     r.number
 }
 
@@ -473,7 +475,7 @@ pub extern "C" fn threshdune_samples(
 ) -> u64
     ensures { λ r. ⌜ AnswerCounted (sliceRules (now (coords .entry)) true (now (knots .entry)) ++ sampleRules (sliceShape (now (coords .entry)) (now (knots .entry))) «per_span» (now (out .entry))) (samplesOf (sliceShape (now (coords .entry)) (now (knots .entry))) «per_span») (now (out .entry)) (now (count .entry)) r (now (out .exit)) (now (count .exit)) ⌝ }
 {
-    let r = measure::samples_slices(coords, knots, per_span as usize, out, count);
+    let r = samples::samples_slices(coords, knots, per_span as usize, out, count);
     r.number
 }
 
@@ -489,7 +491,7 @@ pub extern "C" fn threshdune_closest(
     ensures { λ r. ⌜ Answer (placed (row 14 (ltb (length (now (out .entry))) 1)) (sliceRules (now (coords .entry)) true (now (knots .entry)) ++ searchRules (sliceShape (now (coords .entry)) (now (knots .entry))) (record { x = px; y = py }))) (closestOf (sliceShape (now (coords .entry)) (now (knots .entry))) (record { x = px; y = py }) ∷ []) 1 (now (out .entry)) r (now (out .exit)) ⌝ }
 {
     let found = closest::closest_slices(coords, knots, px, py);
-    crossing::answer_found(found, out)
+    crossing_curve::answer_found(found, out)
 }
 
 // ---- curves as records: two counts and three rooms, checked again like any other
@@ -508,7 +510,7 @@ pub extern "C" fn threshdune_record_evaluate(
 ) -> u64
     ensures { λ r. ⌜ Answer (recordRules (readCurve points «knot_count» (now (xs .entry)) (now (ys .entry)) (now (knots .entry))) ++ pointRules (shapeOf (readCurve points «knot_count» (now (xs .entry)) (now (ys .entry)) (now (knots .entry)))) t order (now (out .entry))) (pointOrders (shapeOf (readCurve points «knot_count» (now (xs .entry)) (now (ys .entry)) (now (knots .entry)))) t order) (numbersFor order) (now (out .entry)) r (now (out .exit)) ⌝ }
 {
-    let c = crossing::read_curve(points, knot_count, xs, ys, knots);
+    let c = crossing_curve::read_curve(points, knot_count, xs, ys, knots);
     let r = point::evaluate(c, t, order as usize, out);
     r.number
 }
@@ -526,7 +528,7 @@ pub extern "C" fn threshdune_record_point_tangent(
 ) -> u64
     ensures { λ r. ⌜ Answer (recordRules (readCurve points «knot_count» (now (xs .entry)) (now (ys .entry)) (now (knots .entry))) ++ tangentRules (shapeOf (readCurve points «knot_count» (now (xs .entry)) (now (ys .entry)) (now (knots .entry)))) t (now (out .entry))) (tangentNumbers (shapeOf (readCurve points «knot_count» (now (xs .entry)) (now (ys .entry)) (now (knots .entry)))) t) 4 (now (out .entry)) r (now (out .exit)) ⌝ }
 {
-    let c = crossing::read_curve(points, knot_count, xs, ys, knots);
+    let c = crossing_curve::read_curve(points, knot_count, xs, ys, knots);
     let r = point::point_tangent(c, t, out);
     r.number
 }
@@ -543,7 +545,7 @@ pub extern "C" fn threshdune_record_length(
 ) -> u64
     ensures { λ r. ⌜ Answer (recordRules (readCurve points «knot_count» (now (xs .entry)) (now (ys .entry)) (now (knots .entry))) ++ lengthRules (shapeOf (readCurve points «knot_count» (now (xs .entry)) (now (ys .entry)) (now (knots .entry)))) (now (out .entry))) (lengthOf plain (shapeOf (readCurve points «knot_count» (now (xs .entry)) (now (ys .entry)) (now (knots .entry)))) ∷ []) 1 (now (out .entry)) r (now (out .exit)) ⌝ }
 {
-    let c = crossing::read_curve(points, knot_count, xs, ys, knots);
+    let c = crossing_curve::read_curve(points, knot_count, xs, ys, knots);
     let r = measure::length(c, out);
     r.number
 }
@@ -560,7 +562,7 @@ pub extern "C" fn threshdune_record_domain(
 ) -> u64
     ensures { λ r. ⌜ Answer (recordRules (readCurve points «knot_count» (now (xs .entry)) (now (ys .entry)) (now (knots .entry))) ++ domainRules (now (out .entry))) (domainOf (shapeOf (readCurve points «knot_count» (now (xs .entry)) (now (ys .entry)) (now (knots .entry))))) 2 (now (out .entry)) r (now (out .exit)) ⌝ }
 {
-    let c = crossing::read_curve(points, knot_count, xs, ys, knots);
+    let c = crossing_curve::read_curve(points, knot_count, xs, ys, knots);
     let r = measure::domain(c, out);
     r.number
 }
@@ -579,8 +581,8 @@ pub extern "C" fn threshdune_record_samples(
 ) -> u64
     ensures { λ r. ⌜ AnswerCounted (recordRules (readCurve points «knot_count» (now (xs .entry)) (now (ys .entry)) (now (knots .entry))) ++ sampleRules (shapeOf (readCurve points «knot_count» (now (xs .entry)) (now (ys .entry)) (now (knots .entry)))) «per_span» (now (out .entry))) (samplesOf (shapeOf (readCurve points «knot_count» (now (xs .entry)) (now (ys .entry)) (now (knots .entry)))) «per_span») (now (out .entry)) (now (count .entry)) r (now (out .exit)) (now (count .exit)) ⌝ }
 {
-    let c = crossing::read_curve(points, knot_count, xs, ys, knots);
-    let r = measure::samples(c, per_span as usize, out, count);
+    let c = crossing_curve::read_curve(points, knot_count, xs, ys, knots);
+    let r = samples::samples(c, per_span as usize, out, count);
     r.number
 }
 
@@ -598,7 +600,7 @@ pub extern "C" fn threshdune_record_closest(
 ) -> u64
     ensures { λ r. ⌜ Answer (placed (row 14 (ltb (length (now (out .entry))) 1)) (recordRules (readCurve points «knot_count» (now (xs .entry)) (now (ys .entry)) (now (knots .entry))) ++ searchRules (shapeOf (readCurve points «knot_count» (now (xs .entry)) (now (ys .entry)) (now (knots .entry)))) (record { x = px; y = py }))) (closestOf (shapeOf (readCurve points «knot_count» (now (xs .entry)) (now (ys .entry)) (now (knots .entry)))) (record { x = px; y = py }) ∷ []) 1 (now (out .entry)) r (now (out .exit)) ⌝ }
 {
-    let c = crossing::read_curve(points, knot_count, xs, ys, knots);
+    let c = crossing_curve::read_curve(points, knot_count, xs, ys, knots);
     let found = closest::closest(c, px, py);
-    crossing::answer_found(found, out)
+    crossing_curve::answer_found(found, out)
 }

@@ -20,7 +20,7 @@ fn main() {
     let points = [1.0; 8];
     let far = 8.98846567431158e307;
     let knots = [-far, -far, -far, -far, far, far, far, far];
-    let built = curve::build_control(&points, true, &knots);
+    let built = control::build_control(&points, true, &knots);
     let mut out = [1.0; 2];
     let r = point::evaluate(built.curve, 0.0, 0, &mut out);
     if r.number == 0 {

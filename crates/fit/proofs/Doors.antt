@@ -13,20 +13,21 @@ use Rattle.meaning.specs.Scalar.{plain}
 use Rattle.meaning.specs.Table.{at1}
 use Rattle.meaning.specs.Refusals.{row, firstOf}
 use Rattle.knots.specs.Rules.{knotRules}
-use Rattle.knots.specs.Span.{spanOf}
+use Rattle.span.specs.Span.{spanOf}
 use Rattle.knots.proofs.Refused.{row-passed}
 use Rattle.meaning.proofs.Tests.{no, and-left, and-right}
 use Rattle.solve.specs.Substitution.{solvedOk}
 use Rattle.solve.proofs.Outcomes.{solution-fine, x-at, y-at}
 use Rattle.solve_laws.proofs.Fine.{solved-fine}
-use Rattle.curve.specs.Record.{someWild, recordRules}
+use Rattle.curve.specs.Record.{recordRules}
+use Rattle.answer.specs.Answer.{someWild}
 use Rattle.curve.specs.declared.Built.{Built}
 use Rattle.curve.specs.Build.{handleRules}
 use Rattle.meaning.proofs.Rows.{both-pass}
 use Rattle.curve.proofs.Trusted.{counted-all, all-tame}
 use Rattle.curve.proofs.Assembled.{numbered-handles, built-made}
-use Rattle.curve.proofs.Wild.{none-wild}
-use Rattle.curve.proofs.Rechecked.{control-rechecked}
+use Rattle.answer.proofs.Wild.{none-wild}
+use Rattle.control.proofs.Rechecked.{control-rechecked}
 use Rattle.fit.specs.Parameters.{fitParameter}
 use Rattle.fit.specs.System.{rowsOk}
 use Rattle.fit.specs.Fit.{pointsIn, controlsFor, knotsThrough, rowThrough, rowsThrough, solutionThrough, curveThrough, allFine, fitRules, workShort, buildRules, curveOf, AnswerCurve}

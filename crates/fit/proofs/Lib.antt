@@ -6,7 +6,6 @@ pub mod Rising
 pub mod Rows
 pub mod Through
 pub mod Asked
-pub mod InSlices
 pub mod Passing
 pub mod Doubles
 pub mod Repeats

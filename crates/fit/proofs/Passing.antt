@@ -20,7 +20,7 @@ use Rattle.meaning.proofs.Searching.{found-none}
 use Rattle.knots.proofs.Sorted.{NotFalling, ordered}
 use Rattle.knots.proofs.Accepted.{accepts}
 use Rattle.meaning.proofs.Filling.{length-listed}
-use Rattle.curve.specs.Record.{someWild}
+use Rattle.answer.specs.Answer.{someWild}
 use Rattle.fit.specs.Parameters.{stepAt, knotAt, knotsBy, fitParameter, fitKnots}
 use Rattle.fit.proofs.Rising.{Rising, step-plus, knot-front, knot-back, knot-parameter, knots-fine, fit-knots-sorted}
 

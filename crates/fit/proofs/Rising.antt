@@ -17,15 +17,15 @@ use Rattle.meaning.specs.Scalar.{plain, zero64, one64}
 use Rattle.meaning.proofs.Order as Order
 use Rattle.meaning.specs.Search.{seek, some}
 use Rattle.knots.specs.Rules.{knot}
-use Rattle.knots.specs.Span.{spanOf}
-use Rattle.knots.specs.Halving.{halvedOf}
+use Rattle.span.specs.Span.{spanOf}
+use Rattle.span.specs.Halving.{halvedOf}
 use Rattle.meaning.proofs.Tests.{by-two, no}
 use Rattle.meaning.proofs.Searching.{some-found, none-found}
 use Rattle.knots.proofs.Sorted.{NotFalling}
 use Rattle.knots.proofs.Accepted.{number-no-nan}
-use Rattle.knots.proofs.Spans.{halved-span}
-use Rattle.curve.specs.Record.{someWild}
-use Rattle.curve.proofs.Wild.{each-finite}
+use Rattle.span.proofs.Spans.{halved-span}
+use Rattle.answer.specs.Answer.{someWild}
+use Rattle.answer.proofs.Wild.{each-finite}
 use Rattle.fit.specs.Parameters.{stepAt, sumOf, parameterAt, knotAt, knotsBy, fitParameter, fitKnots}
 use Rattle.fit.proofs.Plus.{plus, root-plus, add-plus, div-plus, zero-least, sum-not-below, finite-over, over-no-nan, over-in-order, over-at-most-one, equal-same}
 use Rattle.fit.proofs.Sums.{sum-none, sum-turn, parameter-inner, parameter-last}

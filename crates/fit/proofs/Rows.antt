@@ -11,7 +11,7 @@ use lib.Ieee.{Float}
 use Rattle.meaning.specs.Scalar.{Ops, plain, zero64, one64}
 use Rattle.meaning.specs.Table.{at1}
 use Rattle.meaning.specs.Search.{listed, every}
-use Rattle.knots.specs.Halving.{halvedOf}
+use Rattle.span.specs.Halving.{halvedOf}
 use Rattle.meaning.proofs.Filling.{length-listed, nth-listed}
 use Rattle.solve.specs.Rows.{flat, Shaped}
 use Rattle.solve.proofs.Lists.{length-cond, blend, blend-start, blend-next, blend-all}

@@ -12,8 +12,8 @@ use lib.Ieee.{Float, nan}
 use Rattle.meaning.specs.Scalar.{plain}
 use Rattle.meaning.specs.Table.{at1}
 use Rattle.meaning.specs.Refusals.{Row, row, firstOf}
-use Rattle.knots.specs.Span.{spanOf}
-use Rattle.knots.specs.Halving.{halvedOf}
+use Rattle.span.specs.Span.{spanOf}
+use Rattle.span.specs.Halving.{halvedOf}
 use Rattle.meaning.proofs.Tests.{by-two, and-left}
 use Rattle.meaning.proofs.Filling.{Filled}
 use Rattle.solve.specs.declared.Solved.{Solved}
@@ -24,7 +24,8 @@ use Rattle.solve.proofs.Flat.{flat-of-rows, rows-shaped-of}
 use Rattle.solve.proofs.Outcomes.{fits-true, solve-of-rows, work-of-rows}
 use Rattle.curve.specs.declared.Curve.{Curve}
 use Rattle.curve.specs.declared.Built.{Built}
-use Rattle.curve.specs.Record.{someWild, emptyCurve}
+use Rattle.curve.specs.Record.{emptyCurve}
+use Rattle.answer.specs.Answer.{someWild}
 use Rattle.meaning.proofs.Rows.{row-applies, row-passes}
 use Rattle.curve.proofs.Assembled.{built-refused, built-made}
 use Rattle.fit.specs.Parameters.{stepAt, parameterAt, knotsBy, fitParameter}

@@ -8,13 +8,15 @@ use lib.Dec.{ltb, eqb}
 use lib.Ieee.{Float}
 use Rattle.meaning.specs.Scalar.{plain}
 use Rattle.meaning.specs.Refusals.{Row, row, firstOf}
-use Rattle.knots.specs.Span.{spanOf}
+use Rattle.span.specs.Span.{spanOf}
 use Rattle.solve.specs.declared.Solved.{Solved}
 use Rattle.solve.specs.Outcome.{Solution, solutionOf, workOf}
 use Rattle.curve.specs.declared.Curve.{Curve}
 use Rattle.curve.specs.declared.Built.{Built}
-use Rattle.curve.specs.Record.{someWild, emptyCurve}
-use Rattle.curve.specs.Build.{handleRules, controlRules, controlCurve, builtBy}
+use Rattle.curve.specs.Record.{emptyCurve}
+use Rattle.answer.specs.Answer.{someWild}
+use Rattle.curve.specs.Build.{handleRules, controlCurve, builtBy}
+use Rattle.control.specs.Control.{controlRules}
 use Rattle.fit.specs.Parameters.{fitParameter, fitKnots}
 use Rattle.fit.specs.System.{fitRow, fitRows, rowsOk}
 

@@ -3,4 +3,3 @@ pub mod Parameters
 pub mod System
 pub mod Stored
 pub mod Fit
-pub mod Slices

@@ -8,7 +8,7 @@ use lib.ListN.{set}
 use lib.Ieee.{Float}
 use Rattle.meaning.specs.Scalar.{plain}
 use Rattle.meaning.specs.Table.{at1}
-use Rattle.knots.specs.Halving.{halvedOf}
+use Rattle.span.specs.Halving.{halvedOf}
 use Rattle.plane.specs.Vector.{Vector}
 use Rattle.solve.specs.Rows.{flat, ofRows}
 use Rattle.fit.specs.System.{rowOk, rowsOk, rowOf, fitRow, fitRows}

@@ -10,14 +10,12 @@ ghost use Rattle.meaning.specs.Table.{at1};
 ghost use Rattle.meaning.specs.Refusals.{row};
 ghost use Rattle.meaning.specs.Search.{listed};
 ghost use Rattle.meaning.proofs.Filling.{Filled};
-ghost use Rattle.buffer.specs.Pasted.{pasted};
 ghost use Rattle.plane.specs.View.{view};
 ghost use Rattle.solve.specs.Outcome.{workOf};
 ghost use Rattle.fit.specs.Parameters.{pointAt, stepAt, sumOf, parameterAt, knotAt, knotsBy, fitParameter};
 ghost use Rattle.fit.specs.System.{spread, withSides};
 ghost use Rattle.fit.specs.Stored.{foundRow, foundFitRow, foundFitRows, Stored, StoredAt, StoredAll};
 ghost use Rattle.fit.specs.Fit.{pointsIn, controlsFor, workFor, curveThrough, allFine, curveWith, workShort, fitRules, workAfter, buildRules, curveOf, workOfBuild, AnswerCurve};
-ghost use Rattle.fit.specs.Slices.{inTurn, roomShort, AnswerFit};
 use curve::Built;
 use curve::Curve;
 use knots::Refusal;
@@ -179,7 +177,7 @@ fn set_row(row: &mut [f64], u: &[f64; 70], m: usize, t: f64, d: usize, b: P2) ->
     requires { ⌜ (m ≤ 66) × (d ≤ 4) × (length (now row) ≡ m + 2) ⌝ }
     ensures { λ r. ⌜ Stored m (foundRow (now (u .entry)) m t d (view b)) (now (row .exit)) r ⌝ }
 {
-    let i = knots::span(u, m, t);
+    let i = span::span(u, m, t);
     let ders = basis::plain::basis(u, i, t, d);
     fill_row(row, ders[d], i, m, b)
 }
@@ -246,7 +244,7 @@ fn curve_with(m: usize, u: [f64; 70], stored: bool, s: Solved) -> Built
     requires { ⌜ m ≤ 66 ⌝ }
     ensures { λ r. ⌜ r ≡ curveWith m u stored s ⌝ }
 {
-    let wild = curve::first_wild(&u, 70) < 70;
+    let wild = answer::first_wild(&u, 70) < 70;
     if !number::both(!wild, number::both(stored, s.fine)) {
         return curve::refused(15);
     }
@@ -278,8 +276,9 @@ fn interpolate(q: &[f64], work: &mut [f64]) -> Built
     curve_with(n + 2, u, stored, s)
 }
 
-// The curve through fit points x, y in turn, by the rules for them. `short` tells whether a slice for the answer is short.
-fn build_fit(q: &[f64], given: bool, knots: &[f64], short: bool, work: &mut [f64]) -> Built
+// The curve through fit points x, y in turn, by the rules for them. `short` tells whether a slice that the caller has for the answer is short, which is 14.
+// Corresponds to 000 BSpline::from_fit_points.
+pub fn build_fit(q: &[f64], given: bool, knots: &[f64], short: bool, work: &mut [f64]) -> Built
     ensures { λ r. ⌜ AnswerCurve (fitRules (now (q .entry)) given (now (knots .entry)) (workShort (now (q .entry)) (now (work .entry)) || short)) (curveThrough (now (q .entry))) (workAfter (now (q .entry)) given (now (knots .entry)) (workShort (now (q .entry)) (now (work .entry)) || short) (now (work .entry))) r (now (work .exit)) ⌝ }
 {
     let r = curve::refused_handles(q, true, given, knots);
@@ -302,59 +301,5 @@ pub fn build(coords: &[f64], fit: bool, given: bool, knots: &[f64], work: &mut [
     if fit {
         return build_fit(coords, given, knots, false, work);
     }
-    curve::build_control(coords, given, knots)
-}
-
-// ---- the same answered in slices
-
-// The control points x, y in turn.
-fn in_turn(xs: [f64; 66], ys: [f64; 66], n: usize) -> [f64; 132]
-    requires { ⌜ n ≤ 66 ⌝ }
-    ensures { λ r. ⌜ r ≡ inTurn n xs ys ⌝ }
-{
-    let mut a = [0.0; 132];
-    for i in 0..n {
-        a[2 * i] = xs[i];
-        a[2 * i + 1] = ys[i];
-    }
-    a
-}
-
-// The control points of a curve into a slice.
-fn put_points(c: Curve, out: &mut [f64])
-    requires { ⌜ c .points ≤ 66 ⌝ }
-    ensures { λ _. ⌜ now (out .exit) ≡ pasted (inTurn (c .points) (c .xs) (c .ys)) (2 * c .points) (now (out .entry)) 0 ⌝ }
-{
-    let xs = c.xs;
-    let ys = c.ys;
-    let points = in_turn(xs, ys, c.points);
-    buffer::put(&points, 2 * c.points, out, 0);
-}
-
-// Its knots into a slice.
-fn put_knots(c: Curve, out: &mut [f64])
-    ensures { λ _. ⌜ now (out .exit) ≡ pasted (c .knots) (c .«knot_count») (now (out .entry)) 0 ⌝ }
-{
-    let u = c.knots;
-    buffer::put(&u, c.knot_count, out, 0);
-}
-
-// The fit with its control points in control and its knots in knots_out.
-pub fn build_fit_slices(
-    q: &[f64],
-    given: bool,
-    knots: &[f64],
-    work: &mut [f64],
-    control: &mut [f64],
-    knots_out: &mut [f64],
-) -> Refusal
-    ensures { λ r. ⌜ AnswerFit (fitRules (now (q .entry)) given (now (knots .entry)) (roomShort (now (q .entry)) (now (work .entry)) (now (control .entry)) (now («knots_out» .entry)))) (curveThrough (now (q .entry))) (workAfter (now (q .entry)) given (now (knots .entry)) (roomShort (now (q .entry)) (now (work .entry)) (now (control .entry)) (now («knots_out» .entry))) (now (work .entry))) (now (control .entry)) (now («knots_out» .entry)) (r .number) (now (control .exit)) (now («knots_out» .exit)) (now (work .exit)) ⌝ }
-{
-    let m = q.len() / 2 + 2;
-    let short = number::either(control.len() < 2 * m, knots_out.len() < m + 4);
-    // A curve that is refused is empty: nothing is put.
-    let b = build_fit(q, given, knots, short, work);
-    put_points(b.curve, control);
-    put_knots(b.curve, knots_out);
-    b.refusal
+    control::build_control(coords, given, knots)
 }

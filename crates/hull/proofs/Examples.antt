@@ -19,7 +19,7 @@ use Rattle.meaning.specs.Loops.{turns}
 use Rattle.meaning.specs.Refusals.{firstOf}
 use Rattle.meaning.specs.Search.{seekFrom}
 use Rattle.knots.specs.Rules.{knot, count, knotRules}
-use Rattle.knots.specs.Span.{spanOf}
+use Rattle.span.specs.Span.{spanOf}
 use Rattle.meaning.proofs.Tests.{and-left, and-right}
 use Rattle.knots.proofs.Accepted.{Accepted, accepted}
 use Rattle.basis.specs.Triangle.{columnTurn, columnOf, sidesTurn, triangleOf}

@@ -18,13 +18,13 @@ use Rattle.meaning.specs.Table.{at1}
 use Rattle.meaning.proofs.Order as order
 use Rattle.knots.specs.Rules.{knot, count, crowded, someCrowded}
 use Rattle.knots.specs.Repeat.{repeats}
-use Rattle.knots.specs.Span.{spanOf}
+use Rattle.span.specs.Span.{spanOf}
 use Rattle.meaning.proofs.Tests.{no, by-two}
 use Rattle.meaning.proofs.Searching.{none-found, found-none}
 use Rattle.knots.proofs.Sorted.{NotFalling, no-nan, ordered, front}
 use Rattle.knots.proofs.Repeats.{one-pass}
 use Rattle.knots.proofs.Accepted.{Accepted, number-no-nan}
-use Rattle.knots.proofs.Spans.{Inside, span-inside}
+use Rattle.span.proofs.Spans.{Inside, span-inside}
 use Rattle.evaluate.specs.Point.{Shape}
 use Rattle.hull.specs.Units.{U}
 use Rattle.hull.specs.Asked.{AllDoubles, InDomain, spanAt}

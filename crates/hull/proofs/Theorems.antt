@@ -15,7 +15,7 @@ use Rattle.meaning.specs.Scalar.{plain}
 use Rattle.meaning.specs.Loops.{turns}
 use Rattle.meaning.specs.Table.{at1}
 use Rattle.meaning.specs.Search.{some}
-use Rattle.knots.specs.Span.{spanOf}
+use Rattle.span.specs.Span.{spanOf}
 use Rattle.meaning.proofs.Searching.{none-found, found-none}
 use Rattle.knots.proofs.Accepted.{Accepted}
 use Rattle.plane.specs.Vector.{Vector}

@@ -10,7 +10,7 @@ use lib.Ieee.Scale.{finite}
 use Rattle.meaning.specs.Scalar.{plain}
 use Rattle.meaning.specs.Table.{at1}
 use Rattle.knots.specs.Rules.{knot}
-use Rattle.knots.specs.Span.{spanOf}
+use Rattle.span.specs.Span.{spanOf}
 use Rattle.evaluate.specs.Point.{Shape}
 use Rattle.hull.specs.Units.{U, riseOf, SizeAtMost}
 

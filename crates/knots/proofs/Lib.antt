@@ -1,8 +1,6 @@
--- The laws of sorted knots, of the rules, of the uniform knots and of the span.
+-- The laws of sorted knots, of repeated ones and of the rules.
 pub mod Sorted
 pub mod Repeats
 pub mod Accepted
-pub mod Spans
 pub mod Refused
-pub mod Uniforms
 pub mod LastRows

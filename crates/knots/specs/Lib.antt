@@ -1,6 +1,3 @@
--- The knot rules, the uniform knots and the span.
+-- The knot rules.
 pub mod Rules
 pub mod Repeat
-pub mod Uniform
-pub mod Span
-pub mod Halving

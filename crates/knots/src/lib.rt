@@ -1,4 +1,4 @@
-// The knot rules, the uniform knots and the span of a parameter.
+// The knot rules.
 ghost use mathlib.Core.Path.{_≡_};
 ghost use mathlib.Core.Bool.{true, false};
 ghost use mathlib.Core.List.{[]};
@@ -8,8 +8,6 @@ ghost use Rattle.meaning.specs.Refusals.{firstOf};
 ghost use Rattle.meaning.specs.Search.{seek};
 ghost use Rattle.knots.specs.Rules.{unfit, someUnfit, unlike, knotRules};
 ghost use Rattle.knots.specs.Repeat.{repeats};
-ghost use Rattle.knots.specs.Uniform.{uniformAt, uniformOf};
-ghost use Rattle.knots.specs.Halving.{narrow, halvedOf};
 
 // Why a spline is refused: the number of the first rule that applies, or 0.
 pub struct Refusal {
@@ -144,93 +142,4 @@ pub fn check(handles: usize, fit: bool, given: bool, knots: &[f64]) -> Refusal
     }
     let by_list = refused_list(handles, knots);
     Refusal { number: by_list }
-}
-
-// Knot j of the uniform knots for n control points.
-fn uniform_at(n: usize, j: usize) -> f64
-    requires { ⌜ (4 ≤ n) × (n ≤ 66) ⌝ }
-    ensures { λ r. ⌜ r ≡ uniformAt n j ⌝ }
-{
-    if j < 4 {
-        return 0.0;
-    }
-    if j < n {
-        let i = j - 3;
-        let spans = n - 3;
-        return i as f64 / spans as f64;
-    }
-    if j < n + 4 {
-        return 1.0;
-    }
-    0.0
-}
-
-// The uniform knots for n control points, all +0.0 where no curve has so many.
-// Corresponds to 000 Curve::new.
-pub fn uniform(n: usize) -> [f64; 70]
-    ensures { λ r. ⌜ r ≡ uniformOf n ⌝ }
-{
-    let mut u = [0.0; 70];
-    if n < 4 {
-        return u;
-    }
-    if n > 66 {
-        return u;
-    }
-    for j in 0..70 {
-        u[j] = uniform_at(n, j);
-    }
-    u
-}
-
-// The two ends of a search among the knots.
-struct Ends {
-    lo: usize,
-    hi: usize,
-}
-
-// The half in which the span of t lies.
-fn narrowed(u: &[f64; 70], t: f64, e: Ends) -> Ends
-    requires { ⌜ e .lo + 1 < e .hi ⌝ ∗ ⌜ e .hi ≤ 66 ⌝ }
-    ensures { λ r. ⌜ r ≡ narrow (now (u .entry)) t e ⌝ ∗ ⌜ e .lo ≤ r .lo ⌝ ∗ ⌜ r .lo < r .hi ⌝ ∗ ⌜ r .hi ≤ e .hi ⌝ }
-{
-    let lo = e.lo;
-    let hi = e.hi;
-    let mid = (lo + hi) / 2;
-    if t < u[mid] {
-        return Ends { lo, hi: mid };
-    }
-    Ends { lo: mid, hi }
-}
-
-// The span by halving, for n control points.
-fn halved(u: &[f64; 70], n: usize, t: f64) -> usize
-    requires { ⌜ (4 ≤ n) × (n ≤ 66) ⌝ }
-    ensures { λ r. ⌜ r ≡ halvedOf (now (u .entry)) n t ⌝ ∗ ⌜ 3 ≤ r ⌝ ∗ ⌜ r < n ⌝ }
-{
-    if t >= u[n] {
-        return n - 1;
-    }
-    if t <= u[3] {
-        return 3;
-    }
-    let mut e = Ends { lo: 3, hi: n };
-    while e.hi - e.lo > 1 {
-        e = narrowed(u, t, e);
-    }
-    e.lo
-}
-
-// The span of t among the knots of n control points: for knots that do not fall, the i with knot i ≤ t < knot i+1, or the end's.
-// Corresponds to 000 Curve::span.
-pub fn span(u: &[f64; 70], n: usize, t: f64) -> usize
-    ensures { λ r. ⌜ r ≡ halvedOf (now (u .entry)) n t ⌝ ∗ ⌜ 3 ≤ r ⌝ ∗ ⌜ r ≤ 65 ⌝ ∗ ⌜ (4 ≤ n → r < n) ⌝ }
-{
-    if n < 4 {
-        return 3;
-    }
-    if n > 66 {
-        return 3;
-    }
-    halved(u, n, t)
 }

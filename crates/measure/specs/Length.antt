@@ -10,7 +10,7 @@ use Rattle.meaning.specs.Loops.{run}
 use Rattle.meaning.specs.Refusals.{Row, row}
 use Rattle.plane.specs.Vector.{Vector, subV, normV}
 use Rattle.evaluate.specs.Point.{Shape}
-use Rattle.curve.specs.Answer.{deliveryRules}
+use Rattle.answer.specs.Answer.{deliveryRules}
 
 module _ {A : Type 0} (o : Ops A) (c : Shape A) where
   -- control point i

@@ -1,3 +1,2 @@
--- The polygon's length, the domain and the samples.
+-- The polygon's length and the domain.
 pub mod Length
-pub mod Samples

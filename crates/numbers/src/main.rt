@@ -16,7 +16,7 @@ fn b() -> [f64; 8] {
 
 // The curve with these control points over uniform knots.
 fn uniform(points: &[f64; 8]) -> Built {
-    curve::build_control(points, false, &[])
+    control::build_control(points, false, &[])
 }
 
 // Writes the word and the number, or that there is none.

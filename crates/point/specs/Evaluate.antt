@@ -8,10 +8,10 @@ use lib.Ieee.Scale.{finite}
 use Rattle.meaning.specs.Scalar.{plain}
 use Rattle.meaning.specs.Table.{at1}
 use Rattle.meaning.specs.Refusals.{Row, row}
-use Rattle.knots.specs.Span.{spanOf}
+use Rattle.span.specs.Span.{spanOf}
 use Rattle.plane.specs.Vector.{unitV}
 use Rattle.evaluate.specs.Point.{Shape, ordersOf}
-use Rattle.curve.specs.Answer.{deliveryRules}
+use Rattle.answer.specs.Answer.{deliveryRules}
 
 -- the orders 0 to `order` at t, x and y in turn; the span is document 01's
 abbrev pub pointOrders : Shape Float → Float → ℕ → List Float

@@ -5,7 +5,7 @@ ghost use Prim.Native.Nat.{_+_, _*_};
 ghost use lib.ListN.{take};
 ghost use Rattle.knots.proofs.Accepted.{Accepted};
 ghost use Rattle.curve.specs.Record.{shapeOf, recordRules};
-ghost use Rattle.curve.specs.Answer.{Answer};
+ghost use Rattle.answer.specs.Answer.{Answer};
 ghost use Rattle.point.specs.Evaluate.{pointOrders, numbersFor, pointRules, tangentNumbers, tangentRules};
 ghost use Rattle.curve.specs.Build.{sliceShape, sliceRules};
 use curve::Curve;
@@ -24,7 +24,7 @@ fn answer_point(c: Curve, t: f64, order: usize, out: &mut [f64]) -> Refusal
         return Refusal { number: 13 };
     }
     let room = evaluate::orders(&c.knots, c.points, &c.xs, &c.ys, t, order);
-    curve::deliver(&room, 2 * (order + 1), out)
+    answer::deliver(&room, 2 * (order + 1), out)
 }
 
 // The point at t, and the unit tangent.
@@ -42,7 +42,7 @@ fn answer_tangent(c: Curve, t: f64, out: &mut [f64]) -> Refusal
     };
     let unit = d.unit();
     let four = [room[0], room[1], unit.x, unit.y];
-    curve::deliver(&four, 4, out)
+    answer::deliver(&four, 4, out)
 }
 
 // ---- the doors: a curve is checked again, whoever made it

@@ -15,7 +15,8 @@ use Rattle.meaning.proofs.Tests.{by-two}
 use Rattle.curve.specs.declared.Curve.{Curve}
 use Rattle.curve.specs.Record.{recordRules}
 use Rattle.point.specs.Evaluate.{pointRules}
-use Rattle.curve.specs.Build.{handleRules, controlRules, builtBy}
+use Rattle.curve.specs.Build.{handleRules, builtBy}
+use Rattle.control.specs.Control.{controlRules}
 use Rattle.meaning.proofs.Rows.{row-applies, row-passes}
 use Rattle.fit.specs.Fit.{fitRules, curveThrough, curveOf, buildRules}
 use Rattle.sheet_read.specs.declared.Sheet.{Sheet}

@@ -3,7 +3,7 @@ use Prim.Native.Nat.{_≤_, _-_}
 use native.Mathlib.Omega.{arith}
 use Rattle.partials.specs.Dual.{dual}
 use Rattle.meaning.proofs.For.{At, first, next, last}
-use Rattle.basis.specs.Columns.{below, firstJ, endJ}
+use Rattle.columns.specs.Columns.{below, firstJ, endJ}
 use Rattle.basis.specs.Derivatives.{midTurn, midCoefs}
 use Rattle.basis_partials.specs.View.{view}
 use Rattle.basis.proofs.InTable.{range-in, mid-in, first-le, end-le}

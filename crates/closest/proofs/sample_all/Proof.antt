@@ -5,7 +5,7 @@ use native.Mathlib.Omega.{arith}
 use lib.Ieee.{nanBits, ofBits}
 use Rattle.meaning.proofs.For.{At, first, next, last}
 use Rattle.plane.specs.View.{view}
-use Rattle.measure.specs.Samples.{pairSamples}
+use Rattle.samples.specs.Samples.{pairSamples}
 use Rattle.closest.specs.Search.{through, sampled}
 use Rattle.closest.proofs.Folded.{nearest-is}
 use borrow.Author.Needs.{needs}

@@ -5,7 +5,7 @@ use native.Mathlib.Omega.{arith}
 use Rattle.meaning.proofs.For.{At, first, next, last}
 use Rattle.meaning.proofs.Whole.{held}
 use Rattle.plane.specs.View.{view}
-use Rattle.measure.specs.Samples.{sampleAt}
+use Rattle.samples.specs.Samples.{sampleAt}
 use Rattle.closest.specs.Search.{sampled}
 use Rattle.closest.proofs.Folded.{through-listed}
 use borrow.Author.Needs.{needs}

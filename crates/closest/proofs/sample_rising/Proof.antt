@@ -1,5 +1,5 @@
 -- `closest::sample_rising` meets its contract.
-use Rattle.measure.proofs.Sampled.{all-rising, none-rising}
+use Rattle.samples.proofs.Sampled.{all-rising, none-rising}
 use Rattle.closest.specs.Search.{through}
 use borrow.Author.Needs.{needs}
 use Rattle.closest.proofs.sample_rising.Statement.{statement}

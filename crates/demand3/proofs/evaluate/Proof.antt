@@ -4,7 +4,7 @@ use Prim.Native.Nat.{ℕ}
 use denote.Ref.{now}
 use mathlib.Core.List.{_++_}
 use Rattle.curve.specs.Record.{shapeOf, recordRules}
-use Rattle.curve.specs.Answer.{Answer}
+use Rattle.answer.specs.Answer.{Answer}
 use Rattle.point.specs.Evaluate.{pointOrders, numbersFor, pointRules}
 use Rattle.demand3.proofs.Promised.{in-hull, never-refused}
 use borrow.Author.Needs.{needs}

@@ -3,8 +3,8 @@ use denote.Ref.{now}
 use lib.Ieee.{Float}
 use Rattle.plane.specs.Vector.{Vector}
 use Rattle.curve.specs.Record.{shapeOf, recordRules}
-use Rattle.crossing.specs.Crossing.{readCurve}
-use Rattle.crossing.proofs.Placed.{low-record, into}
+use Rattle.crossing_curve.specs.Curves.{readCurve}
+use Rattle.crossing_curve.proofs.Placed.{low-record, into}
 use borrow.Author.Needs.{needs}
 use Rattle.exports.proofs.threshdune_record_closest.Statement.{statement}
 use Rattle.exports.proofs.threshdune_record_closest.Tie as tie

@@ -3,7 +3,7 @@ use mathlib.Core.Path.{_≡_, sym, _∙_}
 use mathlib.Core.Bool.{not, _&&_}
 use borrow.Author.Tests.{not-true, not-false}
 use lib.Dec.{ltb}
-use Rattle.curve.specs.Record.{someWild}
+use Rattle.answer.specs.Answer.{someWild}
 use borrow.Author.Needs.{needs}
 use Rattle.fit.proofs.curve_with.Statement.{statement}
 use Rattle.fit.proofs.curve_with.Tie as tie

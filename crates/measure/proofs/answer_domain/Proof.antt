@@ -5,7 +5,7 @@ use native.Mathlib.Omega.{arith}
 use denote.Ref.{now}
 use Rattle.curve.specs.Record.{shapeOf}
 use Rattle.measure.specs.Length.{domainOf, domainRules}
-use Rattle.curve.proofs.Doors.{stop, pass, done, put-all}
+use Rattle.answer.proofs.Doors.{stop, pass, done, put-all}
 use borrow.Author.Needs.{needs}
 use Rattle.measure.proofs.answer_domain.Statement.{statement}
 use Rattle.measure.proofs.answer_domain.Tie as tie

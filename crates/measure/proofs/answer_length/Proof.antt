@@ -3,7 +3,7 @@ use mathlib.Core.Path.{ap}
 use mathlib.Core.List.{[], _∷_}
 use lib.Ieee.{Float}
 use Rattle.measure.specs.Length.{lengthRules}
-use Rattle.curve.proofs.Doors.{delivered-as}
+use Rattle.answer.proofs.Doors.{delivered-as}
 use borrow.Author.Needs.{needs}
 use Rattle.measure.proofs.answer_length.Statement.{statement}
 use Rattle.measure.proofs.answer_length.Tie as tie

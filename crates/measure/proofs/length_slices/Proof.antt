@@ -11,7 +11,8 @@ use Rattle.curve.specs.declared.Curve.{Curve}
 use Rattle.curve.specs.Record.{shapeOf}
 use Rattle.measure.specs.Length.{lengthOf, lengthRules}
 use Rattle.curve.specs.Build.{controlCurve, sliceRules}
-use Rattle.curve.proofs.Doors.{refused, after, moved}
+use Rattle.answer.proofs.Doors.{refused, after}
+use Rattle.curve.proofs.Curves.{moved}
 use Rattle.curve.proofs.Assembled.{built-made, numbered-handles, slices-trusted}
 use borrow.Author.Needs.{needs}
 use Rattle.measure.proofs.length_slices.Statement.{statement}

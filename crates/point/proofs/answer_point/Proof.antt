@@ -2,11 +2,11 @@
 use mathlib.Core.Path.{_≡_, _∙_}
 use borrow.Author.Tests.{lt-ltb, le-ltb}
 use Rattle.meaning.specs.Scalar.{plain}
-use Rattle.knots.proofs.Spans.{accepted-span}
+use Rattle.span.proofs.Spans.{accepted-span}
 use Rattle.evaluate.proofs.Places.{same-span}
 use Rattle.curve.specs.Record.{shapeOf}
 use Rattle.point.specs.Evaluate.{pointOrders, pointRules}
-use Rattle.curve.proofs.Doors.{stop, pass, delivered-as, not-told}
+use Rattle.answer.proofs.Doors.{stop, pass, delivered-as, not-told}
 use borrow.Author.Needs.{needs}
 use Rattle.point.proofs.answer_point.Statement.{statement}
 use Rattle.point.proofs.answer_point.Tie as tie

@@ -4,12 +4,12 @@ use mathlib.Core.List.{List, [], _∷_}
 use lib.Ieee.{Float}
 use Rattle.meaning.specs.Scalar.{plain}
 use Rattle.meaning.specs.Table.{at1}
-use Rattle.knots.proofs.Spans.{accepted-span}
+use Rattle.span.proofs.Spans.{accepted-span}
 use Rattle.plane.specs.Vector.{unitV}
 use Rattle.evaluate.proofs.Places.{same-span}
 use Rattle.curve.specs.Record.{shapeOf}
 use Rattle.point.specs.Evaluate.{tangentNumbers, tangentRules}
-use Rattle.curve.proofs.Doors.{stop, pass, delivered-as, not-told}
+use Rattle.answer.proofs.Doors.{stop, pass, delivered-as, not-told}
 use borrow.Author.Needs.{needs}
 use Rattle.point.proofs.answer_tangent.Statement.{statement}
 use Rattle.point.proofs.answer_tangent.Tie as tie

@@ -1,7 +1,7 @@
 -- `point::point_tangent` meets its contract: the rules of the record, then the answer.
 use mathlib.Core.Path.{sym, _∙_}
 use Rattle.curve.specs.Record.{recordRules}
-use Rattle.curve.proofs.Doors.{refused, after}
+use Rattle.answer.proofs.Doors.{refused, after}
 use Rattle.curve.proofs.Trusted.{numbered-record, trusted}
 use borrow.Author.Needs.{needs}
 use Rattle.point.proofs.point_tangent.Statement.{statement}

@@ -1,0 +1,2 @@
+-- What a door does that answers numbers in a lent slice.
+pub mod Answer

@@ -1,0 +1,2 @@
+-- The laws of signed numbers as the columns need them.
+pub mod Signed

@@ -1,0 +1,2 @@
+-- The columns that A2.3 reads.
+pub mod Columns

@@ -1,0 +1,2 @@
+-- Curves from control points.
+pub mod Control

@@ -1,0 +1,2 @@
+-- A refusal in its place among the others.
+pub mod Placed

@@ -1,0 +1,2 @@
+-- Curves and what is found on them, between C and the library.
+pub mod Curves

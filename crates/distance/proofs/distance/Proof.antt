@@ -1,0 +1,27 @@
+-- `distance::distance` meets its contract.
+use mathlib.Core.Path.{_∙_, ap}
+use Rattle.meaning.specs.Scalar.{plain}
+use Rattle.meaning.specs.Root.{rootOf}
+use Rattle.plane.specs.Vector.{dotV}
+use Rattle.distance.specs.Distance.{distanceOf}
+use borrow.Author.Needs.{needs}
+use Rattle.distance.proofs.distance.Statement.{statement}
+use Rattle.distance.proofs.distance.Tie as tie
+
+sub-requires : tie.Need-sub-requires
+sub-requires c κs = search needs
+
+dot-requires : tie.Need-dot-requires
+dot-requires c κs = search needs
+
+root-requires : tie.Need-root-requires
+root-requires c κs = search needs
+
+returns : tie.Need-returns
+unfolding distanceOf
+returns c =
+    let d = c .before .before .sub .ensures in
+    c .root .ensures ∙ ap rootOf (c .before .dot .ensures ∙ (λ i. dotV plain (d i) (d i)))
+
+pub distance-spec : {M : Type 1} → statement M
+distance-spec = tie.close (tie.spec sub-requires dot-requires root-requires returns)

@@ -1,0 +1,2 @@
+-- The distance of two points.
+pub mod Distance

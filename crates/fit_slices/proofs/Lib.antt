@@ -1,0 +1,3 @@
+-- What the build makes, in two slices.
+pub mod InSlices
+pub mod Determined

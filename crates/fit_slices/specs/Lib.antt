@@ -1,0 +1,2 @@
+-- A fit answered in slices.
+pub mod Slices

@@ -1,0 +1,93 @@
+-- `samples::sample_pairs` meets its contract: a turn adds the samples of one pair.
+use mathlib.Core.Path.{_≡_, refl, sym, ap, _∙_}
+use Prim.Native.Nat.{_+_, _-_, _≤_}
+use native.Mathlib.Omega.{arith}
+use native.Mathlib.Nat.{le-refl}
+use denote.Ref.{now}
+use lib.ListN.{length}
+use lib.Seq.{length-paste}
+use Rattle.meaning.specs.Scalar.{plain}
+use Rattle.meaning.specs.Table.{at1}
+use Rattle.samples.specs.Samples.{pairSamples}
+use Rattle.samples.proofs.Sampled.{Sampled, sampled-first, sampled-next, length-rising}
+use borrow.Author.Needs.{needs}
+use Rattle.samples.proofs.sample_pairs.Statement.{statement}
+use Rattle.samples.proofs.sample_pairs.Tie as tie
+
+abbrev Inv-loop : tie.InvT-loop
+Inv-loop u n per room₀ at₀ pairs i₀ room at i = (pairs ≡ n + 3) × (i ≤ n + 3) × Sampled u per room₀ i at room
+
+abbrev μ-loop : tie.MeasureT-loop
+μ-loop u n per room₀ at₀ pairs i₀ room at i = pairs - i
+
+add-pairs : tie.Need-add-pairs Inv-loop μ-loop
+add-pairs c = search needs
+
+loop-holds : tie.Need-loop-holds Inv-loop μ-loop
+loop-holds c = (search needs, search needs, sampled-first _ _ _)
+
+mul-sample-rising : tie.Need-mul-sample-rising Inv-loop μ-loop
+mul-sample-rising c = search needs
+
+element-copy-out-sample-rising : tie.Need-element-copy-out-sample-rising Inv-loop μ-loop
+element-copy-out-sample-rising c = search needs
+
+add-sample-rising : tie.Need-add-sample-rising Inv-loop μ-loop
+add-sample-rising c = search needs
+
+mul-sample-rising-2 : tie.Need-mul-sample-rising-2 Inv-loop μ-loop
+mul-sample-rising-2 c = search needs
+
+element-copy-out-sample-rising-2 : tie.Need-element-copy-out-sample-rising-2 Inv-loop μ-loop
+element-copy-out-sample-rising-2 c = search needs
+
+sample-rising-requires : tie.Need-sample-rising-requires Inv-loop μ-loop
+sample-rising-requires c κs = search needs
+
+add-i : tie.Need-add-i Inv-loop μ-loop
+add-i c = search needs
+
+loop-less : tie.Need-loop-less Inv-loop μ-loop
+loop-less c = search needs
+
+loop-again : tie.Need-loop-again Inv-loop μ-loop
+loop-again c =
+    let l = c .before .before .before .before .before .before .before .loop in
+    let a = c .before .before .before .before .before .before .before .before .before .args in
+    let r = c .before .before .sample-rising in
+    let p = pairSamples (now (a .u)) (a .per) (l .i) in
+    let n = length-rising (at1 plain (now (a .u)) (l .i)) (at1 plain (now (a .u)) (l .i + 1)) (a .per) in (
+      refl,
+      omega arith,
+      sampled-next (l .inv .2) (omega arith) (ap length (r .ensures .1) ∙ length-paste (l .room) (l .at) p (length p) (omega (arith, l .inv .2 .few, l .inv .2 .long)) (le-refl (length p))) (r .ensures .0) (r .ensures .1),
+    )
+
+same-length : tie.Need-same-length Inv-loop μ-loop
+same-length c = search needs
+
+returns : tie.Need-returns Inv-loop μ-loop
+returns c =
+    let l = c .before .loop in
+    let e : l .i ≡ c .before .before .before .args .n + 3 - 0 = omega arith in
+    let s = rw e at (l .inv .2) in
+    (omega (arith, s .few), (sym (s .count), s .is))
+
+pub sample-pairs-spec : {M : Type 1} → statement M
+sample-pairs-spec =
+    tie.close
+    (tie.spec
+    Inv-loop
+    μ-loop
+    add-pairs
+    loop-holds
+    mul-sample-rising
+    element-copy-out-sample-rising
+    add-sample-rising
+    mul-sample-rising-2
+    element-copy-out-sample-rising-2
+    sample-rising-requires
+    add-i
+    loop-less
+    loop-again
+    same-length
+    returns)

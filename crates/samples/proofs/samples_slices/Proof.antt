@@ -1,0 +1,55 @@
+-- `samples::samples_slices` meets its contract: the rules of the slices, then the answer.
+use mathlib.Core.Path.{_≡_, sym, _∙_, subst}
+use mathlib.Core.Bool.{true, false}
+use Prim.Native.Nat.{_+_}
+use denote.Ref.{now}
+use lib.ListN.{take}
+use Rattle.knots.proofs.Accepted.{Accepted}
+use Rattle.curve.specs.declared.Curve.{Curve}
+use Rattle.curve.specs.Record.{shapeOf}
+use Rattle.samples.specs.Samples.{samplesOf, sampleRules}
+use Rattle.curve.specs.Build.{controlCurve, sliceRules}
+use Rattle.samples.proofs.Counted.{refused-counted, after-counted, moved-counted}
+use Rattle.curve.proofs.Assembled.{built-made, numbered-handles, slices-trusted}
+use borrow.Author.Needs.{needs}
+use Rattle.samples.proofs.samples_slices.Statement.{statement}
+use Rattle.samples.proofs.samples_slices.Tie as tie
+
+abbrev start-of : tie.Else1 → tie.Start
+start-of c = c .before .before .before .before .before .before
+
+-- past the rules the curve is assembled
+made : (c : tie.Else1) → c .before .before .assemble .result .curve ≡ controlCurve (now (start-of c .args .coords)) true (now (start-of c .args .knots))
+made c =
+    let b = c .before .before in
+    b .assemble .ensures .1 ∙ sym (built-made _ _ (sym (c .if1 .left) ∙ b .assemble .ensures .0))
+
+assemble-requires : tie.Need-assemble-requires
+assemble-requires c κs = search needs
+
+returns : tie.Need-returns
+returns c =
+    let b = c .before .before .before in
+    let a = b .before .before .before .before .args in
+    refused-counted (sliceRules (now (a .coords)) true (now (a .knots))) _ (b .assemble .ensures .0) (c .before .if1 .taken)
+
+answer-samples-requires : tie.Need-answer-samples-requires
+answer-samples-requires c κs =
+    let t = c .before .before in
+    let a = start-of t .args in
+    subst (λ (k : Curve). Accepted (take (k .points + 4) (k .knots)) (k .points)) (sym (made t))
+    (slices-trusted (now (a .coords)) (now (a .knots)) (sym (t .before .before .assemble .ensures .0) ∙ t .if1 .left))
+
+same-length : tie.Need-same-length
+same-length c = search needs
+
+returns-2 : tie.Need-returns-2
+returns-2 c =
+    let t = c .before .before .before .before .before in
+    let a = start-of t .args in
+    after-counted (sliceRules (now (a .coords)) true (now (a .knots))) (numbered-handles _ false true _) (sym (t .before .before .assemble .ensures .0) ∙ t .if1 .left)
+    (moved-counted (λ k. sampleRules (shapeOf k) (a .per) (now (a .out))) (λ k. samplesOf (shapeOf k) (a .per)) (made t) (c .before .before .answer-samples .ensures))
+
+pub samples-slices-spec : {M : Type 1} → statement M
+samples-slices-spec =
+    tie.close (tie.spec assemble-requires returns answer-samples-requires same-length returns-2)

@@ -1,0 +1,2 @@
+-- The samples, and an answer with its count.
+pub mod Samples

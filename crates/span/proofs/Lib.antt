@@ -1,0 +1,2 @@
+-- The search finds the span, and the only one.
+pub mod Spans

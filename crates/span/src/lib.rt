@@ -1,0 +1,56 @@
+// The span of a parameter, found by halving.
+ghost use mathlib.Core.Path.{_≡_};
+ghost use Prim.Native.Nat.{_+_, _≤_, _<_};
+ghost use Rattle.span.specs.Halving.{narrow, halvedOf};
+
+// The two ends of a search among the knots.
+struct Ends {
+    lo: usize,
+    hi: usize,
+}
+
+// The half in which the span of t lies.
+fn narrowed(u: &[f64; 70], t: f64, e: Ends) -> Ends
+    requires { ⌜ e .lo + 1 < e .hi ⌝ ∗ ⌜ e .hi ≤ 66 ⌝ }
+    ensures { λ r. ⌜ r ≡ narrow (now (u .entry)) t e ⌝ ∗ ⌜ e .lo ≤ r .lo ⌝ ∗ ⌜ r .lo < r .hi ⌝ ∗ ⌜ r .hi ≤ e .hi ⌝ }
+{
+    let lo = e.lo;
+    let hi = e.hi;
+    let mid = (lo + hi) / 2;
+    if t < u[mid] {
+        return Ends { lo, hi: mid };
+    }
+    Ends { lo: mid, hi }
+}
+
+// The span by halving, for n control points.
+fn halved(u: &[f64; 70], n: usize, t: f64) -> usize
+    requires { ⌜ (4 ≤ n) × (n ≤ 66) ⌝ }
+    ensures { λ r. ⌜ r ≡ halvedOf (now (u .entry)) n t ⌝ ∗ ⌜ 3 ≤ r ⌝ ∗ ⌜ r < n ⌝ }
+{
+    if t >= u[n] {
+        return n - 1;
+    }
+    if t <= u[3] {
+        return 3;
+    }
+    let mut e = Ends { lo: 3, hi: n };
+    while e.hi - e.lo > 1 {
+        e = narrowed(u, t, e);
+    }
+    e.lo
+}
+
+// The span of t among the knots of n control points: for knots that do not fall, the i with knot i ≤ t < knot i+1, or the end's.
+// Corresponds to 000 Curve::span.
+pub fn span(u: &[f64; 70], n: usize, t: f64) -> usize
+    ensures { λ r. ⌜ r ≡ halvedOf (now (u .entry)) n t ⌝ ∗ ⌜ 3 ≤ r ⌝ ∗ ⌜ r ≤ 65 ⌝ ∗ ⌜ (4 ≤ n → r < n) ⌝ }
+{
+    if n < 4 {
+        return 3;
+    }
+    if n > 66 {
+        return 3;
+    }
+    halved(u, n, t)
+}

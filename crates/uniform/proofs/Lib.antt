@@ -1,0 +1,2 @@
+-- Uniform knots pass the rules.
+pub mod Uniforms

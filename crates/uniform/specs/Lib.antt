@@ -1,0 +1,2 @@
+-- Uniform knots.
+pub mod Uniform

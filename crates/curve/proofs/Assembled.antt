@@ -1,5 +1,5 @@
 -- The rules for control points and knots in slices, from the tests that the build makes one after the other. Assumes nothing.
-use mathlib.Core.Path.{_≡_, sym, ap, _∙_}
+use mathlib.Core.Path.{_≡_, sym, ap, _∙_, subst}
 use mathlib.Core.Bool.{Bool, true, false, not}
 use mathlib.Core.List.{List, [], _∷_, _++_}
 use Prim.Native.Nat.{ℕ, _+_, _/_, _%_, _≤_}
@@ -17,7 +17,7 @@ use Rattle.knots.proofs.Refused.{row-passed, handles-passed}
 use Rattle.curve.specs.declared.Curve.{Curve}
 use Rattle.curve.specs.Record.{emptyCurve}
 use Rattle.answer.specs.Answer.{someWild}
-use Rattle.curve.specs.Build.{storedKnots, handleRules, sliceRules, builtBy}
+use Rattle.curve.specs.Build.{storedKnots, controlCurve, handleRules, sliceRules, builtBy}
 use Rattle.meaning.proofs.Rows.{numbered, row-applies, row-passes, second-decides, first-decides, both-pass}
 use Rattle.curve.proofs.Trusted.{numbered-knots}
 use Rattle.answer.proofs.Doors.{put-all}
@@ -97,3 +97,15 @@ pub slices-trusted : (coords ks : List Float) → firstOf (sliceRules coords tru
 slices-trusted coords ks h =
     let a = accepted ks (length coords / 2) (handles-passed-knots coords false true ks h) in
     rw (stored-front ks (length coords / 2) (a .sound .long) (a .room)) a
+
+-- what is assembled of slices that the rules let through is their curve
+pub assembled : (coords : List Float) (given : Bool) (ks : List Float) {n : ℕ} {c : Curve} → n ≡ firstOf (sliceRules coords given ks)
+    → c ≡ builtBy (sliceRules coords given ks) (controlCurve coords given ks) → n ≡ 0 → c ≡ controlCurve coords given ks
+assembled coords given ks number built passed = built ∙ sym (built-made _ _ (sym passed ∙ number))
+
+-- and its knots, where they are given, are accepted
+pub assembled-trusted : (coords ks : List Float) {n : ℕ} {c : Curve} → n ≡ firstOf (sliceRules coords true ks)
+    → c ≡ builtBy (sliceRules coords true ks) (controlCurve coords true ks) → n ≡ 0 → Accepted (take (c .points + 4) (c .knots)) (c .points)
+assembled-trusted coords ks number built passed =
+    subst (λ (k : Curve). Accepted (take (k .points + 4) (k .knots)) (k .points)) (sym (assembled coords true ks number built passed))
+    (slices-trusted coords ks (sym number ∙ passed))

@@ -1,4 +1,4 @@
-// Curves: the record with its re-check, and its build from control points.
+// Curves: the record with its re-check, and what its builds and the doors for slices have in common.
 ghost use mathlib.Core.Path.{_≡_};
 ghost use mathlib.Core.Bool.{true, false};
 ghost use Prim.Native.Nat.{_+_, _*_, _/_, _≤_, _<_};
@@ -67,7 +67,7 @@ pub fn recheck(c: Curve) -> Refusal
     Refusal { number: 0 }
 }
 
-// ---- the build from control points
+// ---- handles, and the curve of control points
 
 // Every second number of coords from off on, n of them.
 fn every_other(coords: &[f64], n: usize, off: usize) -> [f64; 66]

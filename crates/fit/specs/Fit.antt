@@ -47,10 +47,12 @@ rowsThrough q =
 unfoldable pub solutionThrough : List Float → Solution Float
 solutionThrough q = solutionOf plain (controlsFor q) (rowsThrough q)
 
+-- m control points with knots us
+abbrev pub curveOver : ℕ → List Float → List Float → List Float → Curve
+curveOver m us xs ys = record { points = m; «knot_count» = m + 4; xs = xs; ys = ys; knots = us }
+
 unfoldable pub curveThrough : List Float → Curve
-curveThrough q =
-    let s = solutionThrough q in
-    record { points = controlsFor q; «knot_count» = controlsFor q + 4; xs = s .xs; ys = s .ys; knots = knotsThrough q }
+curveThrough q = let s = solutionThrough q in curveOver (controlsFor q) (knotsThrough q) (s .xs) (s .ys)
 
 -- Refusal 15 is for a stored number that is not finite: a knot, a matrix number or a right side, or one that the solve stores. The steps are not stored.
 unfoldable pub allFine : List Float → Bool
@@ -60,7 +62,7 @@ allFine q = not (someWild (knotsThrough q) 70) && (rowsOk plain (controlsFor q) 
 abbrev pub curveWith : ℕ → List Float → Bool → Solved → Built
 curveWith m us stored s =
     cond (not (someWild us 70) && (stored && s .fine))
-    (record { refusal = record { number = 0 }; curve = record { points = m; «knot_count» = m + 4; xs = s .xs; ys = s .ys; knots = us } })
+    (record { refusal = record { number = 0 }; curve = curveOver m us (s .xs) (s .ys) })
     (record { refusal = record { number = 15 }; curve = emptyCurve })
 
 -- The rules, 14 of which is that a lent slice is short: the work buffer, or one for the answer.

@@ -1,15 +1,11 @@
 -- `closest::closest_slices` meets its contract: the rules of the slices, then the search.
-use mathlib.Core.Path.{_≡_, sym, _∙_, subst}
+use mathlib.Core.Path.{_≡_, sym, _∙_}
 use mathlib.Core.Bool.{true, false}
-use Prim.Native.Nat.{_+_}
 use denote.Ref.{now}
-use lib.ListN.{take}
 use lib.Ieee.{Float}
-use Rattle.knots.proofs.Accepted.{Accepted}
-use Rattle.curve.specs.declared.Curve.{Curve}
 use Rattle.curve.specs.Record.{shapeOf}
 use Rattle.curve.specs.Build.{controlCurve, sliceRules}
-use Rattle.curve.proofs.Assembled.{built-made, numbered-handles, slices-trusted}
+use Rattle.curve.proofs.Assembled.{numbered-handles, assembled, assembled-trusted}
 use Rattle.plane.specs.Vector.{Vector}
 use Rattle.closest.specs.Search.{closestOf, searchRules}
 use Rattle.closest.proofs.Answers.{refused, after, moved}
@@ -24,7 +20,7 @@ start-of c = c .before .before .before .before .before
 made : (c : tie.Else1) → c .before .before .assemble .result .curve ≡ controlCurve (now (start-of c .args .coords)) true (now (start-of c .args .knots))
 made c =
     let b = c .before .before in
-    b .assemble .ensures .1 ∙ sym (built-made _ _ (sym (c .if1 .left) ∙ b .assemble .ensures .0))
+    assembled _ _ _ (b .assemble .ensures .0) (b .assemble .ensures .1) (c .if1 .left)
 
 assemble-requires : tie.Need-assemble-requires
 assemble-requires c κs = search needs
@@ -37,9 +33,8 @@ returns c =
 
 search-requires : tie.Need-search-requires
 search-requires c κs =
-    let a = start-of c .args in
-    subst (λ (k : Curve). Accepted (take (k .points + 4) (k .knots)) (k .points)) (sym (made c))
-    (slices-trusted (now (a .coords)) (now (a .knots)) (sym (c .before .before .assemble .ensures .0) ∙ c .if1 .left))
+    let b = c .before .before in
+    assembled-trusted _ _ (b .assemble .ensures .0) (b .assemble .ensures .1) (c .if1 .left)
 
 returns-2 : tie.Need-returns-2
 returns-2 c =

@@ -6,7 +6,7 @@ use denote.Ref.{now}
 use Rattle.curve.specs.declared.Curve.{Curve}
 use Rattle.curve.specs.Build.{controlCurve, sliceRules}
 use Rattle.control.proofs.Controls.{refused-build, after-build, moved-build}
-use Rattle.curve.proofs.Assembled.{room-of, built-made, numbered-handles, handles-passed-knots}
+use Rattle.curve.proofs.Assembled.{room-of, numbered-handles, handles-passed-knots, assembled}
 use borrow.Author.Needs.{needs}
 use Rattle.control.proofs.build_control_slices.Statement.{statement}
 use Rattle.control.proofs.build_control_slices.Tie as tie
@@ -17,7 +17,7 @@ start-of c = c .before .before .before .before .before .before .before
 made : (c : tie.Else1) → c .before .before .assemble .result .curve ≡ controlCurve (now (start-of c .args .coords)) (start-of c .args .given) (now (start-of c .args .knots))
 made c =
     let b = c .before .before in
-    b .assemble .ensures .1 ∙ sym (built-made _ _ (sym (c .if1 .left) ∙ b .assemble .ensures .0))
+    assembled _ _ _ (b .assemble .ensures .0) (b .assemble .ensures .1) (c .if1 .left)
 
 assemble-requires : tie.Need-assemble-requires
 assemble-requires c κs = search needs

@@ -1,17 +1,13 @@
 -- `point::evaluate_slices` meets its contract: the rules of the slices, then the answer.
-use mathlib.Core.Path.{_≡_, sym, _∙_, subst}
+use mathlib.Core.Path.{_≡_, sym, _∙_}
 use mathlib.Core.Bool.{true, false}
-use Prim.Native.Nat.{_+_}
 use denote.Ref.{now}
-use lib.ListN.{take}
-use Rattle.knots.proofs.Accepted.{Accepted}
-use Rattle.curve.specs.declared.Curve.{Curve}
 use Rattle.curve.specs.Record.{shapeOf}
 use Rattle.point.specs.Evaluate.{pointOrders, pointRules}
 use Rattle.curve.specs.Build.{controlCurve, sliceRules}
 use Rattle.answer.proofs.Doors.{refused, after}
 use Rattle.curve.proofs.Curves.{moved}
-use Rattle.curve.proofs.Assembled.{built-made, numbered-handles, slices-trusted}
+use Rattle.curve.proofs.Assembled.{numbered-handles, assembled, assembled-trusted}
 use borrow.Author.Needs.{needs}
 use Rattle.point.proofs.evaluate_slices.Statement.{statement}
 use Rattle.point.proofs.evaluate_slices.Tie as tie
@@ -23,7 +19,7 @@ start-of c = c .before .before .before .before .before .before
 made : (c : tie.Else1) → c .before .before .assemble .result .curve ≡ controlCurve (now (start-of c .args .coords)) true (now (start-of c .args .knots))
 made c =
     let b = c .before .before in
-    b .assemble .ensures .1 ∙ sym (built-made _ _ (sym (c .if1 .left) ∙ b .assemble .ensures .0))
+    assembled _ _ _ (b .assemble .ensures .0) (b .assemble .ensures .1) (c .if1 .left)
 
 assemble-requires : tie.Need-assemble-requires
 assemble-requires c κs = search needs
@@ -37,9 +33,8 @@ returns c =
 answer-point-requires : tie.Need-answer-point-requires
 answer-point-requires c κs =
     let t = c .before in
-    let a = start-of t .args in
-    subst (λ (k : Curve). Accepted (take (k .points + 4) (k .knots)) (k .points)) (sym (made t))
-    (slices-trusted (now (a .coords)) (now (a .knots)) (sym (t .before .before .assemble .ensures .0) ∙ t .if1 .left))
+    let b = t .before .before in
+    assembled-trusted _ _ (b .assemble .ensures .0) (b .assemble .ensures .1) (t .if1 .left)
 
 same-length : tie.Need-same-length
 same-length c = search needs

@@ -2,7 +2,7 @@
 use Prim.Native.Nat.{ℕ, _≤_, _<_}
 use native.Mathlib.Omega.{arith}
 use lib.Dec.{leb, ltb, leb→le, le→leb, lt→ltb}
-use Rattle.columns.specs.Columns.{below, columnAt, firstJ, endJ}
+use Rattle.basis_columns.specs.Columns.{below, columnAt, firstJ, endJ}
 use Rattle.basis.proofs.Small.{at44, at444, imp, imp-out}
 
 -- the column r - k, where r is k or more

@@ -9,7 +9,7 @@ use borrow.Author.Tests.{le-leb, lt-leb}
 use Rattle.meaning.specs.Scalar.{Ops, zero64}
 use Rattle.meaning.specs.Loops.{turns, run}
 use Rattle.meaning.specs.Table.{at1, at2, put2}
-use Rattle.columns.specs.Columns.{below, columnAt}
+use Rattle.basis_columns.specs.Columns.{below, columnAt}
 use Rattle.basis.specs.Triangle.{Cell, Column, Sides, cellOf, columnTurn, columnOf, sidesTurn, noSides, triangleOf}
 use Rattle.basis.specs.Derivatives.{Coefs, gapAt, valueAt, firstPut, midPut, lastPut, firstCoef, midTurn, midCoefs, lastCoef, cleared, swapped, orderOf}
 use Rattle.basis.specs.Basis.{Orders, Scaling, noOrders, valuesOf, orderTurn, functionOf, functionsOf, scaledRow, scaleTurn, scaled, derivativesOf, basisOf}

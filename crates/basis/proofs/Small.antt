@@ -3,17 +3,10 @@ use mathlib.Core.Bool.{Bool, true, false, _&&_}
 use Prim.Native.Nat.{ℕ, zero, suc, _≤_}
 use native.Mathlib.Omega.{arith}
 use lib.Dec.{T}
+use lib.Ieee.Fits.{and-l, and-r}
 
 abbrev pub all4 : (ℕ → Bool) → Bool
 all4 p = p 0 && (p 1 && (p 2 && p 3))
-
-pub and-l : (a b : Bool) → T (a && b) → T a
-and-l true b h = tt
-and-l false b h = h
-
-pub and-r : (a b : Bool) → T (a && b) → T b
-and-r true b h = h
-and-r false b h = absurd h
 
 -- a test that passes at 0, 1, 2 and 3 passes at each n up to 3
 pub at4 : (p : ℕ → Bool) → T (all4 p) → (n : ℕ) → n ≤ 3 → T (p n)

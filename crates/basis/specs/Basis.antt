@@ -1,5 +1,5 @@
 -- The four cubic basis functions that are not zero on a span, and their derivatives: entry k, j of the answer is the derivative of order k of
--- function i - 3 + j. Document 000's `basis` decides the operations and their order, The NURBS Book, A2.3, what they mean; document 01 that the
+-- function i - 3 + j. The original's `basis` decides the operations and their order, The NURBS Book, A2.3, what they mean; docs/RULES.md that the
 -- orders above 3 are 0.
 use Prim.Native.Nat.{ℕ, _+_, _-_, min}
 use mathlib.Core.Bool.{cond, _&&_}

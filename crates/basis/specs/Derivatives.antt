@@ -1,4 +1,4 @@
--- A2.3's derivative of order k of basis function r, from the table `ndu` and the coefficients of order k - 1. Document 000's `basis` decides the
+-- A2.3's derivative of order k of basis function r, from the table `ndu` and the coefficients of order k - 1. The original's `basis` decides the
 -- operations and their order, The NURBS Book, A2.3, what they mean.
 use Prim.Native.Nat.{ℕ, _-_}
 use mathlib.Core.Bool.{cond}
@@ -9,7 +9,7 @@ use lib.IntN.{ℤ}
 use Rattle.meaning.specs.Scalar.{Ops, zero64, one64}
 use Rattle.meaning.specs.Loops.{run}
 use Rattle.meaning.specs.Table.{at1, at2}
-use Rattle.columns.specs.Columns.{below, columnAt, firstJ, endJ}
+use Rattle.basis_columns.specs.Columns.{below, columnAt, firstJ, endJ}
 use Rattle.basis.specs.Triangle.{zeros}
 
 -- A2.3's two alternating rows `a[s1]` and `a[s2]`, and the sum `d`

@@ -1,4 +1,4 @@
--- A2.3's table `ndu`: basis values on and above the diagonal, knot differences below it. Document 000's `basis` decides the operations and their
+-- A2.3's table `ndu`: basis values on and above the diagonal, knot differences below it. The original's `basis` decides the operations and their
 -- order, The NURBS Book, A2.3, what they mean.
 use Prim.Native.Nat.{ℕ, _+_, _-_}
 use mathlib.Core.List.{List}

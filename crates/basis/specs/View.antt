@@ -1,4 +1,4 @@
--- The structs of the code, as the definitions see them.
+-- Inner: the structs of the code, as the definitions see them.
 use lib.Ieee.{Float}
 use Rattle.basis.specs.declared.plain.Cell as Code
 use Rattle.basis.specs.declared.plain.Coefs as CodeCoefs

@@ -1,4 +1,4 @@
--- The structs of the code, as the definitions see them.
+-- Inner: the structs of the code, as the definitions see them.
 use Rattle.partials.specs.declared.Dv.{Dv}
 use Rattle.basis.specs.Triangle.{Cell}
 use Rattle.basis.specs.Derivatives.{Coefs}

@@ -124,7 +124,7 @@ fn first_coef(ndu: [[Dv; 4]; 4], r: usize, k: usize, s: Coefs) -> Coefs
     ensures { λ q. ⌜ view q ≡ firstCoef dual ndu r k (view s) ⌝ }
 {
     if k <= r {
-        let at = columns::column_at(r as u8, k as u8, 0);
+        let at = basis_columns::column_at(r as u8, k as u8, 0);
         return first_put(ndu[4 - k][at], ndu[at][3 - k], s);
     }
     s
@@ -137,10 +137,10 @@ fn mid_coefs(ndu: [[Dv; 4]; 4], r: usize, k: usize, s: Coefs) -> Coefs
 {
     let rb = r as u8;
     let kb = k as u8;
-    let end = columns::end_j(rb, kb);
+    let end = basis_columns::end_j(rb, kb);
     let mut q = s;
-    for j in columns::first_j(rb, kb)..end {
-        let at = columns::column_at(rb, kb, j as u8);
+    for j in basis_columns::first_j(rb, kb)..end {
+        let at = basis_columns::column_at(rb, kb, j as u8);
         let next = mid_put(ndu[4 - k][at], ndu[at][3 - k], j, q);
         q = next;
     }
@@ -261,7 +261,7 @@ fn scaled_by(n: usize, d: [[Dv; 4]; 5]) -> [[Dv; 4]; 5]
 
 // The four basis functions of a span at t, with their derivatives up to order nd in the rows 0 to nd. The span is given by the six knots w that
 // it reads: for span i those from knot i - 2 to knot i + 3.
-// Corresponds to 000 Curve::basis.
+// Corresponds to spline.rs: Curve::basis.
 pub fn basis(w: [Dv; 6], t: Dv, nd: usize) -> [[Dv; 4]; 5]
     ensures { λ q. ⌜ q ≡ derivativesOf dual w 2 t nd ⌝ }
 {
@@ -270,7 +270,7 @@ pub fn basis(w: [Dv; 6], t: Dv, nd: usize) -> [[Dv; 4]; 5]
     if nd == 0 {
         return values;
     }
-    let n = columns::orders_of(nd);
+    let n = basis_columns::orders_of(nd);
     let orders = functions_of(ndu, n, values);
     scaled_by(n, orders)
 }

@@ -8,7 +8,7 @@ use lib.Ieee.{Float, lt, le}
 use Rattle.meaning.specs.Scalar.{plain, zero64}
 use Rattle.meaning.specs.Number.{sizeOf, clampOf}
 use Rattle.plane.specs.Vector.{Vector}
-use Rattle.evaluate.specs.Point.{Shape}
+use Rattle.shape.specs.Shape.{Shape}
 use Rattle.closest.specs.Search.{still, from, to, slopeAt, roundOf, unfinished}
 use Rattle.closest.specs.declared.Progress.{Progress}
 

@@ -1,55 +1,51 @@
 -- The rules of a search, from the tests that the code makes one after the other. Assumes nothing.
 use mathlib.Core.Path.{_≡_, sym, ap, _∙_}
 use mathlib.Core.Bool.{Bool, true, false, not, _||_}
+use mathlib.Core.List.{[], _∷_}
 use lib.Ieee.{Float, ne, isNan}
 use lib.Ieee.Scale.{finite}
+use Rattle.refusal.specs.declared.Refusal.{Refusal}
+use Rattle.refusal.specs.Refusals.{refusal, none}
+use Rattle.outcome.specs.Told.{Values, telling}
+use Rattle.outcome.proofs.Doors.{Tells, untold, tells, stop-told, pass-told, done-told}
 use Rattle.number.proofs.Compared.{nan-is}
 use Rattle.plane.specs.Vector.{Vector}
-use Rattle.evaluate.specs.Point.{Shape}
+use Rattle.shape.specs.Shape.{Shape}
 use Rattle.closest.specs.Search.{nearestSample, newtonFrom, closestOf, searchRules}
-use Rattle.closest.specs.Found.{Answered}
-use Rattle.closest.specs.declared.Found.{Found}
-use Rattle.closest.specs.declared.Found.the-variants.{At, Refused}
-use Rattle.closest.specs.declared.Nearest.{Nearest}
-use Rattle.closest.proofs.Answers.{stop, pass, done}
+use Rattle.closest.specs.declared.Best.{Best}
 
 module _ (c : Shape Float) (p : Vector Float) where
-  abbrev Answers : Found → Type 0
-  Answers r = Answered (searchRules c p) (closestOf c p) r
+  abbrev Answers : Values → Type 0
+  Answers r = r ≡ telling (searchRules c p) (closestOf c p ∷ [])
 
   -- the point's two numbers
   module _ {a : Bool} (x : a ≡ finite (p .x)) where
-    pub wild-x : not a ≡ true → Answers (Refused 11)
-    unfolding searchRules
-    wild-x h = stop 10 (rw (← x, h))
+    pub wild-x : not a ≡ true → {r : Refusal} → r ≡ refusal 11 → Answers (untold r)
+    wild-x h e = tells (stop-told 10 e (rw (← x, h)))
 
     module _ (tx : not a ≡ false) {b : Bool} (y : b ≡ finite (p .y)) where
-      pub wild-y : not b ≡ true → Answers (Refused 11)
-      unfolding searchRules
-      wild-y h = stop 10 (rw (← x, tx, ← y, h))
+      pub wild-y : not b ≡ true → {r : Refusal} → r ≡ refusal 11 → Answers (untold r)
+      wild-y h e = tells (stop-told 10 e (rw (← x, tx, ← y, h)))
 
       -- the samples
-      module _ (ty : not b ≡ false) {best : Nearest} (s : best ≡ nearestSample c p) where
+      module _ (ty : not b ≡ false) {best : Best} (s : best ≡ nearestSample c p) where
         tame : not (finite (p .x)) || not (finite (p .y)) ≡ false
         tame = rw (← x, tx, ← y, ty)
 
-        pub wild-sample : not (best .fine) ≡ true → Answers (Refused 15)
-        unfolding searchRules
-        wild-sample h = pass 11 tame (stop 14 (rw (← s, h)))
+        pub wild-sample : not (best .fine) ≡ true → {r : Refusal} → r ≡ refusal 15 → Answers (untold r)
+        wild-sample h e = tells (pass-told 11 tame (stop-told 14 e (rw (← s, h))))
 
         -- the last parameter
         module _ (f : not (best .fine) ≡ false) {t : Float} (e : t ≡ newtonFrom c p (best .t)) where
           last-is : t ≡ closestOf c p
           unfolding closestOf
-          last-is = e ∙ ap (λ (z : Nearest). newtonFrom c p (z .t)) s
+          last-is = e ∙ ap (λ (z : Best). newtonFrom c p (z .t)) s
 
           judged : {z : Bool} → ne t t ≡ z → not (nearestSample c p .fine) || isNan (closestOf c p) ≡ z
           judged h = rw (← s, f, ← last-is) (sym (nan-is t) ∙ h)
 
-          pub lost : ne t t ≡ true → Answers (Refused 15)
-          unfolding searchRules
-          lost h = pass 11 tame (stop 14 (judged h))
+          pub lost : ne t t ≡ true → {r : Refusal} → r ≡ refusal 15 → Answers (untold r)
+          lost h q = tells (pass-told 11 tame (stop-told 14 q (judged h)))
 
-          pub found : ne t t ≡ false → Answers (At t)
-          unfolding searchRules
-          found h = pass 11 tame (pass 15 (judged h) (done last-is))
+          pub found : ne t t ≡ false → Answers (record { refusal = none; values = t ∷ [] })
+          found h = ap (λ (z : Float). record { refusal = none; values = z ∷ [] }) last-is ∙ tells (pass-told 11 tame (pass-told 15 (judged h) done-told))

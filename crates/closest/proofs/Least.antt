@@ -14,10 +14,10 @@ use Rattle.meaning.specs.Loops.{run}
 use Rattle.meaning.proofs.Order.{le-refl, lt-le, lt-trans, lt-le-trans, lt-not-le, not-lt-le}
 use Rattle.meaning.proofs.Tests.{by-two, and-left, and-right, no}
 use Rattle.plane.specs.Vector.{Vector}
-use Rattle.evaluate.specs.Point.{Shape}
+use Rattle.shape.specs.Shape.{Shape}
 use Rattle.samples.specs.Samples.{pairSamples, samplesOf}
 use Rattle.closest.specs.Search.{through, to, distanceAt, sampled, unsampled, nearestSample}
-use Rattle.closest.specs.declared.Nearest.{Nearest}
+use Rattle.closest.specs.declared.Best.{Best}
 
 -- a finite number is a number, and below infinity
 tame : (x : Float) → finite x ≡ true → isNan x ≡ false
@@ -46,25 +46,25 @@ module _ (dist : Float → Float) where
     pub first : (j : ℕ) → j < i → lt (dist t) (dist (at1 plain l j)) ≡ true
 
 module _ (c : Shape Float) (p : Vector Float) where
-  abbrev all-of : List Float → Nearest → Nearest
+  abbrev all-of : List Float → Best → Best
   all-of l b = through (sampled c p) l b
 
-  fine-before : (l : List Float) (b : Nearest) → all-of l b .fine ≡ true → b .fine ≡ true
+  fine-before : (l : List Float) (b : Best) → all-of l b .fine ≡ true → b .fine ≡ true
   unfolding through sampled
   fine-before [] b h = h
   fine-before (t ∷ ts) b h = and-left (b .fine) (finite (distanceAt c p t)) (fine-before ts (sampled c p b t) h)
 
-  finite-first : (t : Float) (ts : List Float) (b : Nearest) → all-of (t ∷ ts) b .fine ≡ true → finite (distanceAt c p t) ≡ true
+  finite-first : (t : Float) (ts : List Float) (b : Best) → all-of (t ∷ ts) b .fine ≡ true → finite (distanceAt c p t) ≡ true
   unfolding through sampled
   finite-first t ts b h = and-right (b .fine) (finite (distanceAt c p t)) (fine-before ts (sampled c p b t) h)
 
   -- what the samples l make of b: it stays, or one of them takes its place
-  record Stays (l : List Float) (b r : Nearest) : Type 0 where
+  record Stays (l : List Float) (b r : Best) : Type 0 where
     same-t : r .t ≡ b .t
     same-d : r .d ≡ b .d
     none : NoneNearer (distanceAt c p) (b .d) l
 
-  record Taken (l : List Float) (b r : Nearest) : Type 0 where
+  record Taken (l : List Float) (b r : Best) : Type 0 where
     own : r .d ≡ distanceAt c p (r .t)
     less : lt (r .d) (b .d) ≡ true
     one : FirstLeast (distanceAt c p) l (r .t)
@@ -88,7 +88,7 @@ module _ (c : Shape Float) (p : Vector Float) where
       before (suc j) k = f .first j (omega arith)
 
   -- one sample in front, which leaves b₁
-  module _ (t : Float) (ts : List Float) (b b₁ r : Nearest) (good : finite (distanceAt c p t) ≡ true) where
+  module _ (t : Float) (ts : List Float) (b b₁ r : Best) (good : finite (distanceAt c p t) ≡ true) where
     abbrev d : Float
     d = distanceAt c p t
 
@@ -125,7 +125,7 @@ module _ (c : Shape Float) (p : Vector Float) where
           let q : lt (r .d) (b .d) ≡ true = rw at-d at (k .less) in
           inr (record { own = k .own; less = q; one = first-more t ts (rw (k .own) at (lt-le-trans (r .d) (b .d) d q farther)) (k .one) })
 
-  goes : (l : List Float) (b : Nearest) → isNan (b .d) ≡ false → all-of l b .fine ≡ true → Stays l b (all-of l b) ⊎ Taken l b (all-of l b)
+  goes : (l : List Float) (b : Best) → isNan (b .d) ≡ false → all-of l b .fine ≡ true → Stays l b (all-of l b) ⊎ Taken l b (all-of l b)
   unfolding through sampled
   goes [] b n h = inl (record { same-t = refl; same-d = refl; none = λ j k. absurd (omega arith) })
   goes (t ∷ ts) b n h =

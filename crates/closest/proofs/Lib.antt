@@ -2,7 +2,6 @@
 pub mod Steps
 pub mod Falls
 pub mod Folded
-pub mod Answers
 pub mod Judged
 pub mod Least
 pub mod Nans

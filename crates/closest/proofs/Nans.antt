@@ -12,16 +12,17 @@ use Rattle.meaning.specs.Scalar.{plain, zero64}
 use Rattle.meaning.specs.Table.{at1, at2}
 use Rattle.meaning.specs.Loops.{turns, spin}
 use Rattle.meaning.specs.Number.{sizeOf, clampOf}
-use Rattle.meaning.specs.Refusals.{row, firstOf}
+use Rattle.refusal.specs.Refusals.{row, firstOf, refusal}
 use Rattle.meaning.proofs.Order.{lt-nan}
 use Rattle.span.specs.Span.{spanOf}
 use Rattle.span.proofs.Spans.{span-nan}
 use Rattle.basis.specs.Triangle.{columnTurn, columnOf, sidesTurn, triangleOf}
 use Rattle.basis.specs.Basis.{valuesOf, orderTurn, functionOf, functionsOf, scaledRow, scaleTurn, scaled, derivativesOf, basisOf}
 use Rattle.plane.specs.Vector.{Vector}
-use Rattle.evaluate.specs.Point.{Shape, weighted, placed, insideOf, orderAt, ordersOf}
-use Rattle.point.specs.Evaluate.{pointOrders}
-use Rattle.meaning.proofs.Rows.{row-applies, row-passes}
+use Rattle.shape.specs.Shape.{Shape}
+use Rattle.evaluate.specs.Point.{weighted, placed, insideOf, orderAt, ordersOf}
+use Rattle.point.specs.Point.{pointOrders}
+use Rattle.refusal.proofs.Rows.{row-applies, row-passes}
 use Rattle.closest.specs.Search.{orderIn, still, from, to, slopeAt, roundOf, unfinished, nearestSample, newtonFrom, closestOf, searchRules}
 use Rattle.closest.specs.declared.Progress.{Progress}
 
@@ -122,8 +123,7 @@ module _ (c : Shape Float) (p : Vector Float) where
         ap isNan
         (ap (λ (i : ℕ). rounds i start .t) (sym n) ∙ ap (λ (s : Progress). s .t) (spin-more unfinished (roundOf c p) k (30 - k) start) ∙ rounds-nan (30 - k) (rounds k start) met)
 
-    pub nan-ends-in-15 : finite (p .x) ≡ true → finite (p .y) ≡ true → firstOf (searchRules c p) ≡ 15
-    unfolding searchRules
+    pub nan-ends-in-15 : finite (p .x) ≡ true → finite (p .y) ≡ true → firstOf (searchRules c p) ≡ refusal 15
     nan-ends-in-15 x y =
         row-passes (row 11 (not (finite (p .x)) || not (finite (p .y)))) _ (rw (x, y))
         ∙ row-applies (row 15 (not (nearestSample c p .fine) || isNan (closestOf c p))) [] (rw last-nan (or-true (not (nearestSample c p .fine))))

@@ -13,17 +13,18 @@ use Rattle.span.specs.Halving.{halvedOf}
 use Rattle.knots.proofs.Accepted.{Accepted}
 use Rattle.span.proofs.Spans.{accepted-span}
 use Rattle.plane.specs.Vector.{Vector, subV, dotV}
-use Rattle.evaluate.specs.Point.{Shape, ordersOf}
+use Rattle.shape.specs.Shape.{Shape}
+use Rattle.evaluate.specs.Point.{ordersOf}
 use Rattle.evaluate.proofs.Places.{same-span}
-use Rattle.point.specs.Evaluate.{pointOrders}
+use Rattle.point.specs.Point.{pointOrders}
 use Rattle.distance.specs.Distance.{distanceOf}
 use Rattle.closest.specs.Search.{orderIn, still, from, to, distanceAt, sampled, slopeAt, roundOf}
-use Rattle.closest.specs.declared.Nearest.{Nearest}
+use Rattle.closest.specs.declared.Best.{Best}
 use Rattle.closest.specs.declared.Slope.{Slope}
 use Rattle.closest.specs.declared.Progress.{Progress}
 
 module _ (c : Shape Float) (good : Accepted (take (c .n + 4) (c .knots)) (c .n)) where
-  -- the span that the code finds is document 01's
+  -- the span that the code finds is the rules'
   pub orders-are : (t : Float) (nd : ℕ) → ordersOf plain (halvedOf (c .knots) (c .n)) c t nd ≡ pointOrders c t nd
   orders-are t nd = same-span plain c t nd (λ x. accepted-span (c .knots) (c .n) x good)
 
@@ -40,12 +41,12 @@ module _ (c : Shape Float) (good : Accepted (take (c .n + 4) (c .knots)) (c .n))
 
 module _ (c : Shape Float) (p : Vector Float) where
   -- a sample that is nearer, and one that is not
-  module _ (b : Nearest) (t : Float) {d : Float} (e : d ≡ distanceAt c p t) {fine : Bool} (q : fine ≡ (b .fine && finite d)) where
-    pub taken : lt d (b .d) ≡ true → _≡_ {A = Nearest} (record { t = t; d = d; fine = fine }) (sampled c p b t)
+  module _ (b : Best) (t : Float) {d : Float} (e : d ≡ distanceAt c p t) {fine : Bool} (q : fine ≡ (b .fine && finite d)) where
+    pub taken : lt d (b .d) ≡ true → _≡_ {A = Best} (record { t = t; d = d; fine = fine }) (sampled c p b t)
     unfolding sampled
     taken h = rw (← e, h, q)
 
-    pub passed : lt d (b .d) ≡ false → _≡_ {A = Nearest} (record { t = b .t; d = b .d; fine = fine }) (sampled c p b t)
+    pub passed : lt d (b .d) ≡ false → _≡_ {A = Best} (record { t = b .t; d = b .d; fine = fine }) (sampled c p b t)
     unfolding sampled
     passed h = rw (← e, h, q)
 

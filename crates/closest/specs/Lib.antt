@@ -1,3 +1,2 @@
 -- The closest parameter: the search, and what is answered.
 pub mod Search
-pub mod Found

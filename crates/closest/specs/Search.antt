@@ -1,8 +1,8 @@
--- The search for the closest parameter. Document 01, "Closest parameter", decides; in a round document 000's `closest_param` decides the order of the
--- operations. Three structs of the code have the states: `Nearest` is the nearest sample so far, its distance, and whether every distance so far is
+-- The search for the closest parameter. docs/RULES.md, "Closest parameter", decides; in a round the original's `closest_param` decides the order of the
+-- operations. Three structs of the code have the states: `Best` is the nearest sample so far, its distance, and whether every distance so far is
 -- finite; `Slope` is what a round divides; `Progress` is a parameter and how many rounds may follow.
 use mathlib.Core.Bool.{Bool, true, false, not, _&&_, _||_, cond}
-use mathlib.Core.List.{List, [], _∷_}
+use mathlib.Core.List.{List, [], _∷_, _++_}
 use Prim.Native.Nat.{ℕ, _+_, _-_, _*_}
 use lib.Dec.{ltb}
 use lib.Ieee.{Float, binary64, inf, lt, le, isNan, ofBits}
@@ -11,13 +11,15 @@ use Rattle.meaning.specs.Scalar.{plain, zero64}
 use Rattle.meaning.specs.Table.{at1}
 use Rattle.meaning.specs.Loops.{rest}
 use Rattle.meaning.specs.Number.{sizeOf, clampOf}
-use Rattle.meaning.specs.Refusals.{Row, row}
+use Rattle.refusal.specs.Refusals.{Row, row}
 use Rattle.plane.specs.Vector.{Vector, subV, dotV}
-use Rattle.evaluate.specs.Point.{Shape}
-use Rattle.point.specs.Evaluate.{pointOrders}
+use Rattle.shape.specs.Shape.{Shape}
+use Rattle.shape.specs.Offered.{Offered}
+use Rattle.outcome.specs.Told.{Values, telling}
+use Rattle.point.specs.Point.{pointOrders}
 use Rattle.samples.specs.Samples.{samplesOf}
 use Rattle.distance.specs.Distance.{distanceOf}
-use Rattle.closest.specs.declared.Nearest.{Nearest}
+use Rattle.closest.specs.declared.Best.{Best}
 use Rattle.closest.specs.declared.Slope.{Slope}
 use Rattle.closest.specs.declared.Progress.{Progress}
 
@@ -53,18 +55,18 @@ module _ (c : Shape Float) (p : Vector Float) where
   distanceAt t = distanceOf (orderIn (pointOrders c t 0) 0) p
 
   -- A sample takes the place of the nearest so far only where its distance is less, so that of equal ones the first stays.
-  unfoldable pub sampled : Nearest → Float → Nearest
+  unfoldable pub sampled : Best → Float → Best
   sampled b t =
       let d = distanceAt t in
       let nearer = lt d (b .d) in
       record { t = cond nearer t (b .t); d = cond nearer d (b .d); fine = b .fine && finite d }
 
   -- before the first sample: every finite distance is less
-  abbrev pub unsampled : Nearest
+  abbrev pub unsampled : Best
   unsampled = record { t = from c; d = inf false; fine = true }
 
   -- 16 samples for each knot pair that rises, and the domain's end
-  unfoldable pub nearestSample : Nearest
+  unfoldable pub nearestSample : Best
   nearestSample = through sampled (samplesOf c 16) unsampled
 
   -- ---- Newton's rounds on (C - p)·C' = 0
@@ -99,8 +101,11 @@ module _ (c : Shape Float) (p : Vector Float) where
   unfoldable pub closestOf : Float
   closestOf = newtonFrom (nearestSample .t)
 
-  unfoldable pub searchRules : List Row
+  abbrev pub searchRules : List Row
   searchRules =
       row 11 (not (finite (p .x)) || not (finite (p .y)))
       ∷ row 15 (not (nearestSample .fine) || isNan closestOf)
       ∷ []
+
+unfoldable pub closestAnswer : Offered → Vector Float → Values
+closestAnswer who p = telling (who .rules ++ searchRules (who .shape) p) (closestOf (who .shape) p ∷ [])

@@ -1,30 +1,22 @@
 // The closest parameter: the nearest of many samples, made better by Newton's rounds.
 ghost use mathlib.Core.Path.{_≡_};
-ghost use mathlib.Core.Bool.{true};
-ghost use mathlib.Core.List.{_++_};
 ghost use Prim.Native.Nat.{_+_, _<_};
 ghost use lib.ListN.{take};
-ghost use Rattle.meaning.specs.Search.{listed};
 ghost use Rattle.knots.proofs.Accepted.{Accepted};
 ghost use Rattle.plane.specs.View.{view};
-ghost use Rattle.curve.specs.Record.{shapeOf, recordRules};
-ghost use Rattle.curve.specs.Build.{sliceShape, sliceRules};
-ghost use Rattle.samples.specs.Samples.{sampleAt, risingSamples};
-ghost use Rattle.closest.specs.Search.{through, sampled, nearestSample, slopeAt, roundOf, closestOf, newtonFrom, searchRules};
-ghost use Rattle.closest.specs.Found.{Answered};
+ghost use Rattle.outcome.specs.Told.{told};
+ghost use Rattle.shape.specs.Offered.{inSlices};
+ghost use Rattle.shape.specs.Trusting.{trusting};
+ghost use Rattle.curve.specs.Record.{byRecord};
+ghost use Rattle.closest.specs.Search.{sampled, nearestSample, slopeAt, roundOf, newtonFrom, closestAnswer};
 use curve::Curve;
+use outcome::Told;
 use plane::P2;
-
-// A parameter, or the number of a refusal.
-pub enum Found {
-    At(f64),
-    Refused(u64),
-}
 
 // ---- the samples
 
 // The nearest sample so far and its distance, and whether every distance so far is finite.
-struct Nearest {
+struct Best {
     t: f64,
     d: f64,
     fine: bool,
@@ -38,8 +30,8 @@ fn sample<'a>(
     ys: &'a [f64; 66],
     p: P2,
     t: f64,
-    b: Nearest,
-) -> Nearest
+    b: Best,
+) -> Best
     requires { ⌜ Accepted (take (n + 4) (now u)) n ⌝ }
     ensures { λ r. ⌜ r ≡ sampled (record { n = n; xs = now (xs .entry); ys = now (ys .entry); knots = now (u .entry) }) (view p) b t ⌝ }
 {
@@ -48,79 +40,31 @@ fn sample<'a>(
     let d = distance::distance(c, p);
     let fine = number::both(b.fine, number::is_finite(d));
     if d < b.d {
-        return Nearest { t, d, fine };
+        return Best { t, d, fine };
     }
-    Nearest {
+    Best {
         t: b.t,
         d: b.d,
         fine,
     }
 }
 
-// The nearest, with the 16 samples between w0 and w1.
-fn sample_pair<'a>(
-    u: &'a [f64; 70],
-    n: usize,
-    xs: &'a [f64; 66],
-    ys: &'a [f64; 66],
-    p: P2,
-    w0: f64,
-    w1: f64,
-    b: Nearest,
-) -> Nearest
-    requires { ⌜ Accepted (take (n + 4) (now u)) n ⌝ }
-    ensures { λ r. ⌜ r ≡ through (sampled (record { n = n; xs = now (xs .entry); ys = now (ys .entry); knots = now (u .entry) }) (view p)) (listed 0 16 (sampleAt w0 w1 16)) b ⌝ }
-{
-    let per: usize = 16;
-    let mut best = b;
-    for s in 0..per {
-        let t = w0 + (w1 - w0) * s as f64 / per as f64;
-        best = sample(u, n, xs, ys, p, t, best);
-    }
-    best
-}
-
-// The same where w1 lies above w0, and no sample otherwise.
-fn sample_rising<'a>(
-    u: &'a [f64; 70],
-    n: usize,
-    xs: &'a [f64; 66],
-    ys: &'a [f64; 66],
-    p: P2,
-    w0: f64,
-    w1: f64,
-    b: Nearest,
-) -> Nearest
-    requires { ⌜ Accepted (take (n + 4) (now u)) n ⌝ }
-    ensures { λ r. ⌜ r ≡ through (sampled (record { n = n; xs = now (xs .entry); ys = now (ys .entry); knots = now (u .entry) }) (view p)) (risingSamples w0 w1 16) b ⌝ }
-{
-    if w1 > w0 {
-        return sample_pair(u, n, xs, ys, p, w0, w1, b);
-    }
-    b
-}
-
 // The nearest of all samples. It begins at infinity, so that the first finite distance is taken.
-fn sample_all<'a>(
-    u: &'a [f64; 70],
-    n: usize,
-    xs: &'a [f64; 66],
-    ys: &'a [f64; 66],
-    p: P2,
-) -> Nearest
+fn sample_all<'a>(u: &'a [f64; 70], n: usize, xs: &'a [f64; 66], ys: &'a [f64; 66], p: P2) -> Best
     requires { ⌜ Accepted (take (n + 4) (now u)) n ⌝ }
     ensures { λ r. ⌜ r ≡ nearestSample (record { n = n; xs = now (xs .entry); ys = now (ys .entry); knots = now (u .entry) }) (view p) ⌝ }
 {
-    let mut best = Nearest {
+    let mut room = [0.0; 1105];
+    let count = samples::walk(n, u, 16, &mut room);
+    let mut best = Best {
         t: u[0],
         d: f64::from_bits(0x7ff0_0000_0000_0000),
         fine: true,
     };
-    let pairs = n + 3;
-    for i in 0..pairs {
-        best = sample_rising(u, n, xs, ys, p, u[i], u[i + 1], best);
+    for k in 0..count {
+        best = sample(u, n, xs, ys, p, room[k], best);
     }
-    sample(u, n, xs, ys, p, u[pairs], best)
+    best
 }
 
 // ---- Newton's rounds
@@ -210,46 +154,54 @@ fn newton<'a>(
 // ---- the doors
 
 // The search on an accepted curve.
-fn search(c: Curve, p: P2) -> Found
-    requires { ⌜ Accepted (take (c .points + 4) (c .knots)) (c .points) ⌝ }
-    ensures { λ r. ⌜ Answered (searchRules (shapeOf c) (view p)) (closestOf (shapeOf c) (view p)) r ⌝ }
+fn search<'a>(n: usize, xs: &'a [f64; 66], ys: &'a [f64; 66], u: &'a [f64; 70], p: P2) -> Told
+    requires { ⌜ Accepted (take (n + 4) (now u)) n ⌝ }
+    ensures { λ r. ⌜ told r ≡ closestAnswer (trusting n (now (xs .entry)) (now (ys .entry)) (now (u .entry))) (view p) ⌝ }
 {
     if !number::is_finite(p.x) {
-        return Found::Refused(11);
+        return Told::Refused(refusal::by(11));
     }
     if !number::is_finite(p.y) {
-        return Found::Refused(11);
+        return Told::Refused(refusal::by(11));
     }
-    let best = sample_all(&c.knots, c.points, &c.xs, &c.ys, p);
+    let best = sample_all(u, n, xs, ys, p);
     if !best.fine {
-        return Found::Refused(15);
+        return Told::Refused(refusal::by(15));
     }
-    let t = newton(&c.knots, c.points, &c.xs, &c.ys, p, best.t);
+    let t = newton(u, n, xs, ys, p, best.t);
     if t != t {
-        return Found::Refused(15);
+        return Told::Refused(refusal::by(15));
     }
-    Found::At(t)
+    Told::Is(t)
 }
 
 // The parameter of the curve's point that lies nearest to (px, py), as far as samples and Newton's rounds find it. The curve is checked again.
-// Corresponds to 000 closest_param.
-pub fn closest(c: Curve, px: f64, py: f64) -> Found
-    ensures { λ r. ⌜ Answered (recordRules c ++ searchRules (shapeOf c) (record { x = px; y = py })) (closestOf (shapeOf c) (record { x = px; y = py })) r ⌝ }
+// Corresponds to spline.rs: closest_param.
+pub fn closest(c: Curve, px: f64, py: f64) -> Told
+    ensures { λ r. ⌜ told r ≡ closestAnswer (byRecord c) (record { x = px; y = py }) ⌝ }
 {
-    let r = curve::recheck(c);
+    let r = shape::check(c.points, c.knot_count, &c.xs, &c.ys, &c.knots);
     if r.number != 0 {
-        return Found::Refused(r.number);
+        return Told::Refused(r);
     }
-    search(c, P2 { x: px, y: py })
+    search(c.points, &c.xs, &c.ys, &c.knots, P2 { x: px, y: py })
 }
 
 // The same for a curve in slices: control points x, y in turn, and knots.
-pub fn closest_slices(coords: &[f64], knots: &[f64], px: f64, py: f64) -> Found
-    ensures { λ r. ⌜ Answered (sliceRules (now (coords .entry)) true (now (knots .entry)) ++ searchRules (sliceShape (now (coords .entry)) (now (knots .entry))) (record { x = px; y = py })) (closestOf (sliceShape (now (coords .entry)) (now (knots .entry))) (record { x = px; y = py })) r ⌝ }
+pub fn closest_slices(coords: &[f64], knots: &[f64], px: f64, py: f64) -> Told
+    ensures { λ r. ⌜ told r ≡ closestAnswer (inSlices (now (coords .entry)) (now (knots .entry))) (record { x = px; y = py }) ⌝ }
 {
     let b = curve::assemble(coords, true, knots);
-    if b.refusal.number != 0 {
-        return Found::Refused(b.refusal.number);
+    let r = b.refusal;
+    if r.number != 0 {
+        return Told::Refused(r);
     }
-    search(b.curve, P2 { x: px, y: py })
+    let made = b.curve;
+    search(
+        made.points,
+        &made.xs,
+        &made.ys,
+        &made.knots,
+        P2 { x: px, y: py },
+    )
 }

@@ -1,4 +1,3 @@
--- What the build from control points answers, and that every door lets it through.
-pub mod Controls
+-- What the build answers, and that every question lets it through.
+pub mod Answers
 pub mod Rechecked
-pub mod Determined

@@ -3,7 +3,7 @@
 use mathlib.Core.Path.{_≡_, refl, sym, ap, _∙_, subst}
 use mathlib.Core.Bool.{Bool, true, false}
 use mathlib.Core.List.{List}
-use Prim.Native.Nat.{ℕ, zero, suc, _+_, _*_, _/_, _≤_, _<_}
+use Prim.Native.Nat.{ℕ, zero, suc, _+_, _*_, _≤_, _<_}
 use native.Mathlib.Nat.{sub-zero, zero-add}
 use native.Mathlib.Omega.{arith}
 use lib.ListN.{length, set, take, replicate, length-take, length-replicate}
@@ -12,19 +12,25 @@ use lib.Ieee.Scale.{finite}
 use Rattle.meaning.specs.Scalar.{plain, zero64}
 use Rattle.meaning.specs.Loops.{turns}
 use Rattle.meaning.specs.Table.{at1}
-use Rattle.meaning.specs.Refusals.{firstOf}
+use Rattle.refusal.specs.Refusals.{firstOf}
+use Rattle.refusal.proofs.Rows.{Passed, number-of}
+use Rattle.knots.specs.declared.Form.the-variants.{Control}
 use Rattle.knots.specs.Rules.{knotRules}
 use Rattle.knots.proofs.Accepted.{accepted}
 use Rattle.meaning.proofs.Filling.{Filled, empty, filled}
 use Rattle.uniform.proofs.Uniforms.{uniform-passes}
-use Rattle.curve.specs.Record.{countedKnots, recordRules}
-use Rattle.answer.specs.Answer.{someWild}
-use Rattle.curve.specs.Build.{everyOther, storedKnots, controlCurve, sliceRules}
-use Rattle.control.specs.Control.{controlRules}
-use Rattle.answer.proofs.Wild.{each-finite, none-wild}
-use Rattle.meaning.proofs.Rows.{both-pass}
-use Rattle.curve.proofs.Trusted.{counted-all, all-tame}
-use Rattle.curve.proofs.Assembled.{room-of, numbered-handles, handles-passed-knots, handles-tame, stored-front}
+use Rattle.outcome.specs.Outcome.{someWild}
+use Rattle.outcome.proofs.Wild.{each-finite, none-wild}
+use Rattle.shape.specs.Shape.{pointsIn, everyOther}
+use Rattle.shape.specs.Rules.{countedKnots, handleRules}
+use Rattle.shape.proofs.Trusted.{counted-all, all-tame}
+use Rattle.shape.proofs.Handles.{handles-passed-knots, handles-tame, given-front}
+use Rattle.curve.specs.Record.{byRecord}
+use Rattle.curve.specs.Build.{storedKnots, controlCurve}
+use Rattle.curve.proofs.Builds.{build-parts}
+use Rattle.curve.proofs.Assembled.{room-of}
+use Rattle.control.specs.Control.{controlFine}
+use Rattle.control.specs.Rules.{controlRules}
 
 -- a list written from the front
 fills : (f : ℕ → Float) (d n : ℕ) (l : List Float) → length l ≡ d → n ≤ d → Filled f nan d n (turns 0 n (λ i s. set s i (f i)) l)
@@ -42,39 +48,35 @@ other-at coords n off i r h =
 
 -- ---- the curve
 
-module _ (coords : List Float) (given : Bool) (ks : List Float) (passed : firstOf (controlRules coords given ks) ≡ 0) where
+module _ (coords : List Float) (given : Bool) (ks : List Float) (short : Bool) (passed : Passed (controlRules coords given ks short)) where
   abbrev n : ℕ
-  n = length coords / 2
+  n = pointsIn coords
 
-  handles : firstOf (sliceRules coords given ks) ≡ 0
-  unfolding controlRules
-  handles = both-pass (sliceRules coords given ks) _ (numbered-handles coords false given ks) passed .0
-
-  knots-passed : firstOf (knotRules n false given ks) ≡ 0
-  knots-passed = handles-passed-knots coords false given ks handles
+  handles : Passed (handleRules Control coords given ks)
+  handles = build-parts Control coords given ks short (controlFine coords given ks) passed .0
 
   room : (4 ≤ n) × (n ≤ 66)
-  room = room-of n given ks knots-passed
+  room = room-of coords given ks handles
 
   coordinates : (off : ℕ) → off ≤ 1 → someWild (everyOther coords n off) n ≡ false
   coordinates off o =
       none-wild (everyOther coords n off) n
       (λ i l.
       ap finite (other-at coords n off i (room .1) l)
-      ∙ each-finite coords (length coords) (handles-tame coords false given ks handles) (2 * i + off) (omega arith))
+      ∙ each-finite coords (length coords) (handles-tame Control coords given ks handles) (2 * i + off) (omega arith))
 
-  knots-pass : firstOf (knotRules n false true (take (n + 4) (storedKnots n given ks))) ≡ 0
-  knots-pass = by given knots-passed
+  knots-pass : Passed (knotRules Control n true (take (n + 4) (storedKnots n given ks)))
+  knots-pass = by given (handles-passed-knots Control coords given ks handles)
     where
-      by : (given : Bool) → firstOf (knotRules n false given ks) ≡ 0 → firstOf (knotRules n false true (take (n + 4) (storedKnots n given ks))) ≡ 0
-      by true h = rw (stored-front ks n (accepted ks n h .sound .long) (room .1)) h
+      by : (given : Bool) → Passed (knotRules Control n given ks) → Passed (knotRules Control n true (take (n + 4) (storedKnots n given ks)))
+      by true h = rw (given-front ks n (accepted ks n h .sound .long) (room .1)) h
       by false h = uniform-passes n (room .0) (room .1)
 
   -- so the room holds as many as the record counts
   counted : countedKnots (n + 4) (storedKnots n given ks) ≡ take (n + 4) (storedKnots n given ks)
   counted = counted-all n (n + 4) (storedKnots n given ks) (omega (arith, accepted _ n knots-pass .sound .long, length-take (n + 4) (storedKnots n given ks)))
 
-  pub control-rechecked : firstOf (recordRules (controlCurve coords given ks)) ≡ 0
+  pub control-rechecked : Passed (byRecord (controlCurve coords given ks) .rules)
   control-rechecked =
-      sym (all-tame (controlCurve coords given ks) (sym (ap (λ (l : List Float). firstOf (knotRules n false true l)) counted ∙ knots-pass)) refl
-      (coordinates 0 (omega arith)) (coordinates 1 (omega arith)))
+      let z = number-of (ap (λ (l : List Float). firstOf (knotRules Control n true l)) counted) ∙ knots-pass in
+      number-of (sym (all-tame (n + 4) (byRecord (controlCurve coords given ks) .shape) refl z (coordinates 0 (omega arith)) (coordinates 1 (omega arith)))) ∙ z

@@ -1,2 +1,3 @@
 -- Curves from control points.
 pub mod Control
+pub mod Rules

@@ -1,4 +1,3 @@
--- What an accepted curve is, and handles that the rules let through.
-pub mod Curves
-pub mod Trusted
+-- What a build answers, and curves assembled from slices.
+pub mod Builds
 pub mod Assembled

@@ -1,49 +1,35 @@
--- A curve from control points. Document 01, the table of refusals and "Uniform knots", decides.
-use mathlib.Core.Bool.{Bool, true, false, not, cond}
+-- What a build of a curve answers, and the curve of control points. docs/RULES.md, "Refusals" and "Uniform knots", decide.
+use mathlib.Core.Bool.{Bool, not, cond}
 use mathlib.Core.List.{List, [], _∷_, _++_}
-use Prim.Native.Nat.{ℕ, _+_, _*_, _/_, _%_}
-use lib.ListN.{length, set, replicate}
-use lib.Dec.{eqb}
+use Prim.Native.Nat.{ℕ}
 use lib.Ieee.{Float}
-use Rattle.meaning.specs.Scalar.{plain, zero64}
-use Rattle.meaning.specs.Table.{at1}
-use Rattle.meaning.specs.Loops.{run}
-use Rattle.meaning.specs.Refusals.{Row, row, firstOf}
-use Rattle.knots.specs.Rules.{knotRules}
+use Rattle.refusal.specs.Refusals.{Row, row, firstOf, passes}
+use Rattle.knots.specs.declared.Form.{Form}
 use Rattle.uniform.specs.Uniform.{uniformOf}
-use Rattle.buffer.specs.Pasted.{pasted}
-use Rattle.evaluate.specs.Point.{Shape}
+use Rattle.shape.specs.Shape.{pointsIn, everyOther, givenKnots}
+use Rattle.shape.specs.Rules.{handleRules}
 use Rattle.curve.specs.declared.Curve.{Curve}
-use Rattle.curve.specs.Record.{shapeOf, emptyCurve}
-use Rattle.answer.specs.Answer.{someWild}
+use Rattle.curve.specs.declared.Built.{Built}
+use Rattle.curve.specs.Record.{emptyCurve, curveOver}
 
--- coordinates stand x, y in turn: every second number from `off` on, n of them, in a room of 66
-unfoldable pub everyOther : List Float → ℕ → ℕ → List Float
-everyOther coords n off = run 0 n (λ i l. set l i (at1 plain coords (2 * i + off))) (replicate 66 zero64)
+-- by these rules: the curve or, where one applies, the refusal and the empty curve
+unfoldable pub building : List Row → Curve → Built
+building rules c = record { refusal = firstOf rules; curve = cond (passes rules) c emptyCurve }
+
+-- The rules of a build: those for the handles, then that no lent slice is short, then that every number which is stored is finite.
+abbrev pub roomRules : Form → List Float → Bool → List Float → Bool → List Row
+roomRules form coords given ks short = handleRules form coords given ks ++ (row 14 short ∷ [])
+
+unfoldable pub buildRules : Form → List Float → Bool → List Float → Bool → Bool → List Row
+buildRules form coords given ks short fine = roomRules form coords given ks short ++ (row 15 (not fine) ∷ [])
+
+-- ---- control points
 
 -- the knots in their room of 70: those given, or the uniform ones
 abbrev pub storedKnots : ℕ → Bool → List Float → List Float
-storedKnots n given ks = cond given (pasted ks (n + 4) (replicate 70 zero64) 0) (uniformOf n)
+storedKnots n given ks = cond given (givenKnots n ks) (uniformOf n)
 
 abbrev pub controlCurve : List Float → Bool → List Float → Curve
 controlCurve coords given ks =
-    let n = length coords / 2 in
-    record { points = n; «knot_count» = n + 4; xs = everyOther coords n 0; ys = everyOther coords n 1; knots = storedKnots n given ks }
-
--- the curve that stands in two slices
-abbrev pub sliceShape : List Float → List Float → Shape Float
-sliceShape coords ks = shapeOf (controlCurve coords true ks)
-
--- the rules for handles x, y in turn, fit points or control points, and for knots, if any are given
-unfoldable pub handleRules : List Float → Bool → Bool → List Float → List Row
-handleRules coords fit given ks =
-    row 1 (not (eqb (length coords % 2) 0))
-    ∷ (knotRules (length coords / 2) fit given ks ++ (row 11 (someWild coords (length coords)) ∷ []))
-
--- those for control points
-abbrev pub sliceRules : List Float → Bool → List Float → List Row
-sliceRules coords given ks = handleRules coords false given ks
-
--- what is built: the curve, or where a rule applies the empty curve
-abbrev pub builtBy : List Row → Curve → Curve
-builtBy rules c = cond (eqb (firstOf rules) 0) c emptyCurve
+    let n = pointsIn coords in
+    curveOver n (storedKnots n given ks) (everyOther coords n 0) (everyOther coords n 1)

@@ -1,3 +1,3 @@
--- The curve record, and its build from control points.
+-- The curve record, and what a build of one answers.
 pub mod Record
 pub mod Build

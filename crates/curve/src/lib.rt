@@ -1,13 +1,14 @@
-// Curves: the record with its re-check, and what its builds and the doors for slices have in common.
+// The curve record, and what its builds have in common.
 ghost use mathlib.Core.Path.{_≡_};
-ghost use mathlib.Core.Bool.{true, false};
-ghost use Prim.Native.Nat.{_+_, _*_, _/_, _≤_, _<_};
+ghost use Prim.Native.Nat.{_+_, _*_, _≤_};
 ghost use lib.ListN.{length};
-ghost use Rattle.meaning.specs.Refusals.{firstOf};
-ghost use Rattle.knots.specs.Rules.{knotRules};
-ghost use Rattle.curve.specs.Record.{emptyCurve, countedKnots, recordRules};
-ghost use Rattle.curve.specs.Build.{everyOther, storedKnots, controlCurve, handleRules, sliceRules, builtBy};
-use knots::Refusal;
+ghost use Rattle.knots.specs.declared.Form.the-variants.{Control};
+ghost use Rattle.shape.specs.Shape.{everyOther};
+ghost use Rattle.shape.specs.Rules.{handleRules};
+ghost use Rattle.curve.specs.Record.{emptyCurve};
+ghost use Rattle.curve.specs.Build.{building, storedKnots, controlCurve};
+use knots::Form;
+use refusal::Refusal;
 
 // A cubic: `points` control points and `knot_count` knots, four more. What stands past the counts is +0.0 and not read.
 pub struct Curve {
@@ -24,8 +25,6 @@ pub struct Built {
     pub curve: Curve,
 }
 
-// ---- the record
-
 // Counts 0, all entries +0.0.
 fn empty() -> Curve
     ensures { λ r. ⌜ r ≡ emptyCurve ⌝ }
@@ -39,35 +38,13 @@ fn empty() -> Curve
     }
 }
 
-// The knot rules for a record; a count that it has no room for is wrong, as an empty list is.
-fn recheck_knots(n: usize, u: &[f64], k: usize) -> Refusal
-    ensures { λ r. ⌜ r .number ≡ firstOf (knotRules n false true (countedKnots k (now (u .entry)))) ⌝ }
+// A refusal, with the empty curve.
+pub fn refused(refusal: Refusal) -> Built
+    ensures { λ r. ⌜ r ≡ record { refusal = refusal; curve = emptyCurve } ⌝ }
 {
-    if k > u.len() {
-        return knots::check(n, false, true, &u[..0]);
-    }
-    knots::check(n, false, true, &u[..k])
+    let curve = empty();
+    Built { refusal, curve }
 }
-
-// Why a record is refused by the rules 2 to 11, if it is.
-pub fn recheck(c: Curve) -> Refusal
-    ensures { λ r. ⌜ r .number ≡ firstOf (recordRules c) ⌝ }
-{
-    let n = c.points;
-    let r = recheck_knots(n, &c.knots, c.knot_count);
-    if r.number != 0 {
-        return r;
-    }
-    if answer::first_wild(&c.xs, n) < n {
-        return Refusal { number: 11 };
-    }
-    if answer::first_wild(&c.ys, n) < n {
-        return Refusal { number: 11 };
-    }
-    Refusal { number: 0 }
-}
-
-// ---- handles, and the curve of control points
 
 // Every second number of coords from off on, n of them.
 fn every_other(coords: &[f64], n: usize, off: usize) -> [f64; 66]
@@ -94,49 +71,20 @@ fn stored(n: usize, given: bool, knots: &[f64]) -> [f64; 70]
     uniform::uniform(n)
 }
 
-// A refusal, with the empty curve.
-pub fn refused(number: u64) -> Built
-    ensures { λ r. ⌜ r ≡ record { refusal = record { number = number }; curve = emptyCurve } ⌝ }
-{
-    let curve = empty();
-    Built {
-        refusal: Refusal { number },
-        curve,
-    }
-}
-
-// Why handles x, y in turn, fit points or control points, are refused by the rules 1 to 11, if they are.
-pub fn refused_handles(coords: &[f64], fit: bool, given: bool, knots: &[f64]) -> Refusal
-    ensures { λ r. ⌜ r .number ≡ firstOf (handleRules (now (coords .entry)) fit given (now (knots .entry))) ⌝ }
-{
-    if coords.len() % 2 != 0 {
-        return Refusal { number: 1 };
-    }
-    let r = knots::check(coords.len() / 2, fit, given, knots);
-    if r.number != 0 {
-        return r;
-    }
-    if answer::first_wild(coords, coords.len()) < coords.len() {
-        return Refusal { number: 11 };
-    }
-    Refusal { number: 0 }
-}
-
 // The curve of control points x, y in turn, by the rules 1 to 11.
 pub fn assemble(coords: &[f64], given: bool, knots: &[f64]) -> Built
-    ensures { λ r. ⌜ r .refusal .number ≡ firstOf (sliceRules (now (coords .entry)) given (now (knots .entry))) ⌝ }
-    ensures { λ r. ⌜ r .curve ≡ builtBy (sliceRules (now (coords .entry)) given (now (knots .entry))) (controlCurve (now (coords .entry)) given (now (knots .entry))) ⌝ }
+    ensures { λ r. ⌜ r ≡ building (handleRules Control (now (coords .entry)) given (now (knots .entry))) (controlCurve (now (coords .entry)) given (now (knots .entry))) ⌝ }
 {
-    let r = refused_handles(coords, false, given, knots);
+    let r = shape::check_handles(Form::Control, coords, given, knots);
     if r.number != 0 {
-        return refused(r.number);
+        return refused(r);
     }
     let n = coords.len() / 2;
     let xs = every_other(coords, n, 0);
     let ys = every_other(coords, n, 1);
     let u = stored(n, given, knots);
     Built {
-        refusal: Refusal { number: 0 },
+        refusal: r,
         curve: Curve {
             points: n,
             knot_count: n + 4,

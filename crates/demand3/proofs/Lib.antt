@@ -1,2 +1,2 @@
--- Demand 3 from what a door's contract allows.
+-- Demand 3 (docs/RULES.md) from what a door's contract allows.
 pub mod Promised

@@ -1,2 +1,2 @@
--- Demand 3 for the curve record.
+-- Demand 3 (docs/RULES.md) for the curve record.
 pub mod Demand

@@ -1,4 +1,4 @@
--- The distance of two points. Document 01, "Closest parameter", decides: the root of (dx·dx + dy·dy), in place of document 000's `hypot`. Whoever asks
+-- The distance of two points. docs/RULES.md, "Closest parameter", decides: the root of (dx·dx + dy·dy), in place of the original's `hypot`. Whoever asks
 -- for a distance asks for it by this name.
 use lib.Ieee.{Float}
 use Rattle.meaning.specs.Scalar.{plain}

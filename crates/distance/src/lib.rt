@@ -5,7 +5,7 @@ ghost use Rattle.distance.specs.Distance.{distanceOf};
 use plane::P2;
 
 // The distance of a and b.
-// Corresponds to 000 the closure dist of closest_param, with the root in place of hypot.
+// Corresponds to spline.rs: the closure dist of closest_param, with the root in place of hypot.
 pub fn distance(a: P2, b: P2) -> f64
     ensures { λ r. ⌜ r ≡ distanceOf (view a) (view b) ⌝ }
 {

@@ -8,7 +8,8 @@ use lib.Ieee.{Float, lt}
 use Rattle.meaning.specs.Scalar.{Ops, plain, zero64}
 use Rattle.meaning.specs.Table.{at1}
 use Rattle.plane.specs.Vector.{Vector, addV, scaleV}
-use Rattle.evaluate.specs.Point.{Shape, placed, insideOf, beyondOf, orderAt, ordersOf}
+use Rattle.shape.specs.Shape.{Shape}
+use Rattle.evaluate.specs.Point.{placed, insideOf, beyondOf, orderAt, ordersOf}
 use Rattle.evaluate.specs.Straight.{straightOf}
 
 -- past an end: the point and the tangent that the code hands on are the definition's

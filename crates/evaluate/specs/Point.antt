@@ -1,4 +1,4 @@
--- A point of a curve and its derivatives, over any scalar. Document 01, "Evaluate", decides; document 000's `eval` and `eval_span` the order of the
+-- A point of a curve and its derivatives, over any scalar. docs/RULES.md, "Evaluate", decides; the original's `eval` and `eval_span` the order of the
 -- operations.
 use Prim.Native.Nat.{ℕ, zero, suc, _+_, _-_, _*_}
 use mathlib.Core.Bool.{_&&_, cond}
@@ -9,15 +9,9 @@ use lib.Ieee.{Float, lt}
 use Rattle.meaning.specs.Scalar.{Ops, zero64}
 use Rattle.meaning.specs.Loops.{run}
 use Rattle.meaning.specs.Table.{at1}
+use Rattle.shape.specs.Shape.{Shape}
 use Rattle.basis.specs.Basis.{basisOf}
 use Rattle.plane.specs.Vector.{Vector, addV, scaleV}
-
--- n control points with their n + 4 knots; what stands past those is not read
-pub record Shape (A : Type 0) : Type 0 where
-  pub n : ℕ
-  pub xs : List A
-  pub ys : List A
-  pub knots : List A
 
 module _ {A : Type 0} (o : Ops A) where
   -- One coordinate: summed from +0.0 over the four control points of span i in rising index, product then sum.

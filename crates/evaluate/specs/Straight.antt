@@ -1,4 +1,4 @@
--- What the code hands on past an end of the domain: a point, a tangent, and zeros. Only private contracts cite this.
+-- Inner: what the code hands on past an end of the domain: a point, a tangent, and zeros. Only private contracts cite this.
 use Prim.Native.Nat.{ℕ, zero, suc}
 use lib.Ieee.{Float}
 use Rattle.meaning.specs.Scalar.{zero64}

@@ -44,7 +44,7 @@ fn combine<'a>(
 }
 
 // The orders 0 to nd by the polynomial of t's span.
-// Corresponds to 000 Curve::eval_span.
+// Corresponds to spline.rs: Curve::eval_span.
 fn inside<'a>(
     u: &'a [f64; 70],
     n: usize,
@@ -96,7 +96,7 @@ fn beyond<'a>(
 }
 
 // The orders 0 to nd at t, x and y in turn, of the curve with n control points; zeros where n or nd is out of range.
-// Corresponds to 000 Curve::eval.
+// Corresponds to spline.rs: Curve::eval.
 pub fn orders<'a>(
     u: &'a [f64; 70],
     n: usize,

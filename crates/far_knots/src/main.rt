@@ -1,4 +1,4 @@
-// Why demand 3 bounds the knots: a curve that the rules accept, with knots of 2^1023, all of its control points (1, 1), and its point at 0 elsewhere. docs/HULL.md
+// Why demand 3 (docs/RULES.md) bounds the knots: a curve that the rules accept, with knots of 2^1023, all of its control points (1, 1), and its point at 0 elsewhere. docs/HULL.md
 // has the reason, and `hull/proofs/Examples` the same as a theorem.
 use libc::STDOUT_FILENO;
 
@@ -20,7 +20,7 @@ fn main() {
     let points = [1.0; 8];
     let far = 8.98846567431158e307;
     let knots = [-far, -far, -far, -far, far, far, far, far];
-    let built = control::build_control(&points, true, &knots);
+    let built = control::build_control(&points, true, &knots, false);
     let mut out = [1.0; 2];
     let r = point::evaluate(built.curve, 0.0, 0, &mut out);
     if r.number == 0 {

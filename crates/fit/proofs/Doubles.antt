@@ -11,7 +11,7 @@ use lib.Ieee.Fits.{nan-fits, cond-fits, add-fits, mul-fits}
 use Rattle.meaning.specs.Scalar.{plain, zero64, one64}
 use Rattle.meaning.specs.Loops.{turns}
 use Rattle.meaning.specs.Table.{at1, at2, put2}
-use Rattle.columns.specs.Columns.{below}
+use Rattle.basis_columns.specs.Columns.{below}
 use Rattle.basis.specs.Triangle.{Column, Sides, zeros, columnTurn, columnOf, sidesTurn, noSides, triangleOf}
 use Rattle.basis.specs.Derivatives.{Coefs, firstCoef, midTurn, midCoefs, lastCoef, cleared, orderOf}
 use Rattle.basis.specs.Basis.{Orders, Scaling, noOrders, valuesOf, orderTurn, functionOf, functionsOf, scaledRow, scaleTurn, scaled, derivativesOf, basisOf}

@@ -10,4 +10,3 @@ pub mod Passing
 pub mod Doubles
 pub mod Repeats
 pub mod Doors
-pub mod Determined

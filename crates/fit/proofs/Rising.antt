@@ -1,5 +1,5 @@
 -- The parameters of a fit, where they are finite: none is above the next, and one that is not below the next is the same. So its knots do not
--- fall, and the search by halves finds document 01's span among them. Assumes nothing.
+-- fall, and the search by halves finds the rules' span among them. Assumes nothing.
 use mathlib.Core.Path.{_≡_, refl, sym, ap, _∙_, subst}
 use mathlib.Core.Bool.{Bool, true, false, not}
 use mathlib.Core.List.{List}
@@ -24,8 +24,8 @@ use Rattle.meaning.proofs.Searching.{some-found, none-found}
 use Rattle.knots.proofs.Sorted.{NotFalling}
 use Rattle.knots.proofs.Accepted.{number-no-nan}
 use Rattle.span.proofs.Spans.{halved-span}
-use Rattle.answer.specs.Answer.{someWild}
-use Rattle.answer.proofs.Wild.{each-finite}
+use Rattle.outcome.specs.Outcome.{someWild}
+use Rattle.outcome.proofs.Wild.{each-finite}
 use Rattle.fit.specs.Parameters.{stepAt, sumOf, parameterAt, knotAt, knotsBy, fitParameter, fitKnots}
 use Rattle.fit.proofs.Plus.{plus, root-plus, add-plus, div-plus, zero-least, sum-not-below, finite-over, over-no-nan, over-in-order, over-at-most-one, equal-same}
 use Rattle.fit.proofs.Sums.{sum-none, sum-turn, parameter-inner, parameter-last}

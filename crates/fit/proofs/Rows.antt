@@ -67,7 +67,8 @@ module _ {A : Type 0} (o : Ops A) (sp : Float → ℕ) (us : List A) where
     fit-row-cong r =
         ap (cond (eqb r 0) (rowOf o sp us (n + 2) (o .cst zero64) 2 (origin o)))
         (choice-cong (leb r n) (rowOf o sp us (n + 2) (p (r - 1)) 0 (pointAt o q (r - 1))) (rowOf o sp us (n + 2) (p′ (r - 1)) 0 (pointAt o q (r - 1)))
-        (rowOf o sp us (n + 2) (o .cst one64) 2 (origin o)) (λ e. let l : r ≤ n = leb-true r n e in ap (λ (t : A). rowOf o sp us (n + 2) t 0 (pointAt o q (r - 1))) (h (r - 1) (omega arith))))
+        (rowOf o sp us (n + 2) (o .cst one64) 2 (origin o))
+        (λ e. let l : r ≤ n = leb-true r n e in ap (λ (t : A). rowOf o sp us (n + 2) t 0 (pointAt o q (r - 1))) (h (r - 1) (omega arith))))
 
     pub fit-rows-cong : fitRows o sp us p q n ≡ fitRows o sp us p′ q n
     unfolding fitRows

@@ -70,7 +70,10 @@ module _ {A : Type 0} (o : Ops A) where
 
   knot-cong : (p q : ℕ → A) (n j : ℕ) → 1 ≤ n → ((k : ℕ) → k < n → p k ≡ q k) → knotAt o p n j ≡ knotAt o q n j
   unfolding knotAt
-  knot-cong p q n j m h = ap (cond (ltb j 4) (o .cst zero64)) (choice-cong (ltb j (n + 2)) (p (j - 3)) (q (j - 3)) (cond (ltb j (n + 6)) (o .cst one64) (o .cst zero64)) (λ e. let l : j < n + 2 = ltb-true j (n + 2) e in h (j - 3) (omega arith)))
+  knot-cong p q n j m h =
+      ap (cond (ltb j 4) (o .cst zero64))
+      (choice-cong (ltb j (n + 2)) (p (j - 3)) (q (j - 3)) (cond (ltb j (n + 6)) (o .cst one64) (o .cst zero64))
+      (λ e. let l : j < n + 2 = ltb-true j (n + 2) e in h (j - 3) (omega arith)))
 
   pub knots-cong : (p q : ℕ → A) (n : ℕ) → 1 ≤ n → ((k : ℕ) → k < n → p k ≡ q k) → knotsBy o p n ≡ knotsBy o q n
   unfolding knotsBy

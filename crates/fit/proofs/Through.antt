@@ -1,72 +1,73 @@
 -- From what the code holds to the definition: the arrays are the definition's parameters and knots, and where these are finite the span that the
--- search finds is document 01's, so that the rows, the verdicts and the solution are the definition's. Assumes nothing.
-use mathlib.Core.Path.{_≡_, refl, sym, ap, _∙_}
-use mathlib.Core.Bool.{Bool, true, false, not, _&&_, cond}
-use mathlib.Core.List.{List, [], _∷_}
+-- search finds is the rules', so that the rows, the verdicts and the solution are the definition's. Assumes nothing.
+use mathlib.Core.Path.{_≡_, sym, ap, _∙_}
+use mathlib.Core.Bool.{Bool, true, false, not, _&&_}
+use mathlib.Core.List.{List, []}
 use Prim.Native.Nat.{ℕ, _+_, _-_, _*_, _≤_}
 use native.Mathlib.Omega.{arith}
-use borrow.Author.Tests.{not-true}
+use borrow.Author.Tests.{not-true, not-false, eqb-true}
 use lib.ListN.{length, drop}
-use lib.Dec.{eqb}
 use lib.Ieee.{Float, nan}
 use Rattle.meaning.specs.Scalar.{plain}
 use Rattle.meaning.specs.Table.{at1}
-use Rattle.meaning.specs.Refusals.{Row, row, firstOf}
-use Rattle.span.specs.Span.{spanOf}
-use Rattle.span.specs.Halving.{halvedOf}
 use Rattle.meaning.proofs.Tests.{by-two, and-left}
 use Rattle.meaning.proofs.Filling.{Filled}
+use Rattle.refusal.specs.Refusals.{Row, firstOf, passes}
+use Rattle.refusal.proofs.Rows.{Passed, row-passed}
+use Rattle.span.specs.Span.{spanOf}
+use Rattle.span.specs.Halving.{halvedOf}
 use Rattle.solve.specs.declared.Solved.{Solved}
 use Rattle.solve.specs.View.{view}
-use Rattle.solve.specs.Rows.{flat, rowsOf, Shaped}
-use Rattle.solve.specs.Outcome.{solutionOf, fits, solveOf, workOf}
+use Rattle.solve.specs.Rows.{flat, rowsOf}
+use Rattle.solve.specs.Outcome.{solutionOf, fits, workOf}
+use Rattle.solve.specs.Buffer.{solveOf}
 use Rattle.solve.proofs.Flat.{flat-of-rows, rows-shaped-of}
 use Rattle.solve.proofs.Outcomes.{fits-true, solve-of-rows, work-of-rows}
+use Rattle.outcome.specs.Outcome.{someWild}
+use Rattle.shape.specs.Shape.{pointsIn}
 use Rattle.curve.specs.declared.Curve.{Curve}
 use Rattle.curve.specs.declared.Built.{Built}
-use Rattle.curve.specs.Record.{emptyCurve}
-use Rattle.answer.specs.Answer.{someWild}
-use Rattle.meaning.proofs.Rows.{row-applies, row-passes}
-use Rattle.curve.proofs.Assembled.{built-refused, built-made}
+use Rattle.curve.specs.Record.{curveOver}
+use Rattle.curve.specs.Build.{building}
 use Rattle.fit.specs.Parameters.{stepAt, parameterAt, knotsBy, fitParameter}
 use Rattle.fit.specs.System.{rowsOk, fitRow, fitRows}
-use Rattle.fit.specs.Stored.{foundFitRow, foundFitRows, StoredAll}
-use Rattle.fit.specs.Fit.{pointsIn, controlsFor, workFor, knotsThrough, rowThrough, rowsThrough, solutionThrough, curveThrough, allFine, curveWith, AnswerCurve}
+use Rattle.fit.specs.Fit.{controlsFor, knotsThrough, rowThrough, rowsThrough, solutionThrough, curveThrough, fitFine, making}
+use Rattle.fit.specs.Fitting.{workFor}
+use Rattle.fit.specs.Stored.{foundFitRow, foundFitRows, StoredAll, lastRule, curveWith, interpolated}
 use Rattle.fit.proofs.Sums.{parameter-cong, knots-cong}
 use Rattle.fit.proofs.Rows.{fit-row-cong, fit-rows-cong, found-shaped}
 use Rattle.fit.proofs.Rising.{fit-span}
 
 -- ---- the solve of the filled buffer
 
-module _ (m : ℕ) (F : List (List Float)) (row : ℕ → List Float) (w w′ : List Float) (fine : Bool)
-    (some : 1 ≤ m) (few : m ≤ 66) (room : m * (m + 2) ≤ length w) (kept : length w′ ≡ length w)
-    (f : StoredAll m F row w w′ fine) (sh : Shaped m (m + 2) F) where
-  filled : w′ ≡ flat F (drop (m * (m + 2)) w)
-  filled = f .held (rowsOf m (m + 2) w) (drop (m * (m + 2)) w) (flat-of-rows m (m + 2) w) (rows-shaped-of m (m + 2) w room)
+module _ (us ps q : List Float) (n : ℕ) (few : n ≤ 64) (w w′ : List Float) (room : (n + 2) * (n + 2 + 2) ≤ length w) (kept : length w′ ≡ length w)
+    (fine : Bool) (f : StoredAll us ps q n w w′ fine) where
+  abbrev m : ℕ
+  m = n + 2
+
+  abbrev rest : List Float
+  rest = drop (m * (m + 2)) w
+
+  filled : w′ ≡ flat (foundFitRows us ps q n) rest
+  filled = f .held (rowsOf m (m + 2) w) rest (flat-of-rows m (m + 2) w) (rows-shaped-of m (m + 2) w room)
 
   fits-now : fits m w′ ≡ true
-  fits-now = fits-true m w′ some few (omega (arith, kept))
+  fits-now = fits-true m w′ (omega arith) (omega arith) (omega (arith, kept))
 
-  solve-filled : solveOf m w′ ≡ solutionOf plain m F
-  solve-filled = solve-of-rows m F (drop (m * (m + 2)) w) w′ filled sh fits-now
+  solve-filled : solveOf m w′ ≡ solutionOf plain m (foundFitRows us ps q n)
+  solve-filled = solve-of-rows m _ rest w′ filled (found-shaped us ps q n) fits-now
 
   work-filled : workOf m w′ ≡ workOf m w
   work-filled =
-      work-of-rows m F (drop (m * (m + 2)) w) w′ filled sh fits-now
-      ∙ sym (work-of-rows m (rowsOf m (m + 2) w) (drop (m * (m + 2)) w) w (flat-of-rows m (m + 2) w) (rows-shaped-of m (m + 2) w room) (fits-true m w some few room))
+      work-of-rows m _ rest w′ filled (found-shaped us ps q n) fits-now
+      ∙ sym (work-of-rows m (rowsOf m (m + 2) w) rest w (flat-of-rows m (m + 2) w) (rows-shaped-of m (m + 2) w room)
+      (fits-true m w (omega arith) (omega arith) room))
 
--- ---- the answers
-
--- a rule applies
-pub answer-refused : {rules : List Row} {c : Curve} {b : Built} {m : ℕ} {w w′ : List Float} → b ≡ record { refusal = record { number = m }; curve = emptyCurve }
-    → m ≡ firstOf rules → (m ≡ 0 → ⊥) → w′ ≡ w → AnswerCurve rules c w b w′
-answer-refused {rules} {c} e h above k =
-    record { number = ap (λ (x : Built). x .refusal .number) e ∙ h; curve = ap (λ (x : Built). x .curve) e ∙ built-refused rules c h above; work = k }
-
--- rules that answer the same
-pub answer-same : {rs rules : List Row} {c : Curve} {b : Built} {v w w′ : List Float} → firstOf rules ≡ firstOf rs → v ≡ w → AnswerCurve rs c v b w′ → AnswerCurve rules c w b w′
-answer-same {c = c} e k a =
-    record { number = a .number ∙ sym e; curve = a .curve ∙ ap (λ (n : ℕ). cond (eqb n 0) c emptyCurve) (sym e); work = a .work ∙ k }
+-- rules that say the same, of a curve that is the same where they let it pass
+building-as : (a b : List Row) (c d : Curve) → firstOf a ≡ firstOf b → (Passed b → c ≡ d) → building a c ≡ building b d
+unfolding building
+building-as a b c d e h =
+    rw e (by-two (passes b) (λ p. rw p (ap (λ (x : Curve). record { refusal = firstOf b; curve = x }) (h (eqb-true _ 0 p)))) (λ p. rw p))
 
 -- ---- the arrays
 
@@ -103,7 +104,7 @@ module _ (q p u : List Float) (two : 2 ≤ pointsIn q) (few : pointsIn q ≤ 64)
         ∙ ap (λ (us : List Float). fitRows plain (halvedOf us (controlsFor q)) us (fitParameter plain q (pointsIn q)) q (pointsIn q)) knots-are
         ∙ ap (λ (sp : Span). fitRows plain sp (knotsThrough q) (fitParameter plain q (pointsIn q)) q (pointsIn q)) span-is
 
-  -- ---- the verdicts of the filling and of the solve, and the answer
+  -- ---- the verdicts of the filling and of the solve, and what is built
   module _ (stored : Bool) (s : Solved)
       (hr : stored ≡ rowsOk plain (controlsFor q) (foundFitRow u p q (pointsIn q)))
       (hv : view s ≡ solutionOf plain (controlsFor q) (foundFitRows u p q (pointsIn q))) where
@@ -111,8 +112,8 @@ module _ (q p u : List Float) (two : 2 ≤ pointsIn q) (few : pointsIn q ≤ 64)
     unfolding solutionThrough
     tame-solution tame = hv ∙ ap (solutionOf plain (controlsFor q)) (rows-are tame)
 
-    verdict : (not (someWild u 70) && (stored && s .fine)) ≡ allFine q
-    unfolding allFine
+    verdict : (not (someWild u 70) && (stored && s .fine)) ≡ fitFine q
+    unfolding fitFine
     verdict =
         rw (ap (λ (us : List Float). someWild us 70) knots-are)
         (by-two (someWild (knotsThrough q) 70) (λ wild. rw wild)
@@ -120,41 +121,19 @@ module _ (q p u : List Float) (two : 2 ≤ pointsIn q) (few : pointsIn q ≤ 64)
         let rows : stored ≡ rowsOk plain (controlsFor q) (rowThrough q) = hr ∙ ap (rowsOk plain (controlsFor q)) (λ i r. row-is tame r i) in
         rw tame (λ i. rows i && tame-solution tame i .fine)))
 
-    module _ {w w′ : List Float} (k : w′ ≡ w) where
-      abbrev Fits : Built → Type 0
-      Fits b = AnswerCurve (row 15 (not (allFine q)) ∷ []) (curveThrough q) w b w′
-
-      refuses : allFine q ≡ false → Fits (record { refusal = record { number = 15 }; curve = emptyCurve })
-      refuses h = answer-refused refl (sym (row-applies (row 15 (not (allFine q))) [] (ap not h))) (λ z. omega arith) k
-
-      answers : allFine q ≡ true → Fits (record { refusal = record { number = 0 }; curve = record { points = controlsFor q; «knot_count» = controlsFor q + 4; xs = s .xs; ys = s .ys; knots = u } })
-      unfolding curveThrough firstOf allFine
-      answers h =
-          let v = tame-solution (not-true (someWild (knotsThrough q) 70) (and-left _ _ h)) in
-          let none : 0 ≡ firstOf (row 15 (not (allFine q)) ∷ []) = sym (row-passes (row 15 (not (allFine q))) [] (ap not h)) in
-          record {
-            number = none;
-            curve = (λ i. record { points = controlsFor q; «knot_count» = controlsFor q + 4; xs = v i .xs; ys = v i .ys; knots = knots-are i })
-                ∙ built-made (row 15 (not (allFine q)) ∷ []) (curveThrough q) none;
-            work = k;
-          }
-
-      answer-with : {b : Built} → b ≡ curveWith (controlsFor q) u stored s → Fits b
-      answer-with e = rw (e, verdict) (by (allFine q) refl)
-        where
-          by : (t : Bool) → allFine q ≡ t
-              → Fits (cond t (record { refusal = record { number = 0 }; curve = record { points = controlsFor q; «knot_count» = controlsFor q + 4; xs = s .xs; ys = s .ys; knots = u } }) (record { refusal = record { number = 15 }; curve = emptyCurve }))
-          by true h = answers h
-          by false h = refuses h
+    built-with : curveWith (controlsFor q) u stored s ≡ building (lastRule (fitFine q)) (curveThrough q)
+    unfolding curveThrough fitFine
+    built-with =
+        building-as _ _ _ _ (ap (λ (t : Bool). firstOf (lastRule t)) verdict)
+        (λ h.
+        let v = tame-solution (not-true (someWild (knotsThrough q) 70) (and-left _ _ (not-false (fitFine q) (row-passed 14 _ [] h .0)))) in
+        λ i. curveOver (controlsFor q) (knots-are i) (v i .xs) (v i .ys))
 
   -- the buffer was filled and solved
-  pub answer-solved : {w w₁ w₂ : List Float} {stored : Bool} {s : Solved} {b : Built} → workFor q ≤ length w → length w₁ ≡ length w
-      → StoredAll (controlsFor q) (foundFitRows u p q (pointsIn q)) (foundFitRow u p q (pointsIn q)) w w₁ stored
-      → view s ≡ solveOf (controlsFor q) w₁ → w₂ ≡ workOf (controlsFor q) w₁ → b ≡ curveWith (controlsFor q) u stored s
-      → AnswerCurve (row 15 (not (allFine q)) ∷ []) (curveThrough q) (workOf (controlsFor q) w) b w₂
-  answer-solved {w} {w₁} {w₂} {stored} {s} room kept f hv hw e =
-      let F = foundFitRows u p q (pointsIn q) in
-      let row = foundFitRow u p q (pointsIn q) in
-      let shape = found-shaped u p q (pointsIn q) in
-      answer-with stored s (f .judged) (hv ∙ solve-filled (controlsFor q) F row w w₁ stored (omega arith) (omega (arith, few)) room kept f shape)
-      (hw ∙ work-filled (controlsFor q) F row w w₁ stored (omega arith) (omega (arith, few)) room kept f shape) e
+  pub solved-through : {w w₁ w₂ : List Float} {stored : Bool} {s : Solved} {b : Built} → workFor q ≤ length w → length w₁ ≡ length w
+      → StoredAll u p q (pointsIn q) w w₁ stored → view s ≡ solveOf (controlsFor q) w₁ → w₂ ≡ workOf (controlsFor q) w₁
+      → b ≡ curveWith (controlsFor q) u stored s → making b w₂ ≡ interpolated q w
+  solved-through {w} {w₁} {w₂} {stored} {s} room kept f hv hw e =
+      let solution = hv ∙ solve-filled u p q (pointsIn q) few w w₁ room kept stored f in
+      let work = hw ∙ work-filled u p q (pointsIn q) few w w₁ room kept stored f in
+      λ i. making ((e ∙ built-with stored s (f .judged) solution) i) (work i)

@@ -1,5 +1,6 @@
--- The parameters and the knots of a curve through n points, over any scalar. Document 01, "Fit points", decides; document 000's `interpolate` the
+-- The parameters and the knots of a curve through n points, over any scalar. docs/RULES.md, "Fit points", decides; the original's `interpolate` the
 -- order of the operations. The points stand x, y in turn in one list. A step, a parameter and a knot are each given by their index.
+-- n is the number of stations, the points that the curve passes one after the other: of another form of fit they may be others.
 use mathlib.Core.Bool.{cond}
 use mathlib.Core.List.{List}
 use Prim.Native.Nat.{ℕ, _+_, _-_, _*_}

@@ -1,8 +1,8 @@
--- What filling the system promises: the row, or the rows, that a buffer holds afterwards, and the verdict on their numbers. The span is the one
--- that the search finds; where the knots do not fall it is document 01's.
+-- Inner: the row, or the rows, that a buffer holds after filling, with the verdict on their numbers,
+-- and what is answered past the rules 1 to 14. The span is the one that the search finds; where the knots do not fall it is the rules'.
 use mathlib.Core.Path.{_≡_}
-use mathlib.Core.Bool.{Bool}
-use mathlib.Core.List.{List}
+use mathlib.Core.Bool.{Bool, not, _&&_}
+use mathlib.Core.List.{List, [], _∷_}
 use Prim.Native.Nat.{ℕ, _+_}
 use lib.ListN.{set}
 use lib.Ieee.{Float}
@@ -10,8 +10,16 @@ use Rattle.meaning.specs.Scalar.{plain}
 use Rattle.meaning.specs.Table.{at1}
 use Rattle.span.specs.Halving.{halvedOf}
 use Rattle.plane.specs.Vector.{Vector}
+use Rattle.refusal.specs.Refusals.{Row, row}
+use Rattle.solve.specs.declared.Solved.{Solved}
 use Rattle.solve.specs.Rows.{flat, ofRows}
+use Rattle.solve.specs.Outcome.{workOf}
+use Rattle.outcome.specs.Outcome.{someWild}
+use Rattle.curve.specs.declared.Built.{Built}
+use Rattle.curve.specs.Record.{curveOver}
+use Rattle.curve.specs.Build.{building}
 use Rattle.fit.specs.System.{rowOk, rowsOk, rowOf, fitRow, fitRows}
+use Rattle.fit.specs.Fit.{controlsFor, curveThrough, fitFine, Making, making}
 
 -- the row over the knots us that says: the derivative of order d at t is b
 unfoldable pub foundRow : List Float → ℕ → Float → ℕ → Vector Float → List Float
@@ -37,7 +45,20 @@ pub record StoredAt (m r : ℕ) (row w w′ : List Float) (fine : Bool) : Type 0
   pub held : ofRows m (m + 2) w (λ M rest. w′ ≡ flat (set M r row) rest)
   pub judged : fine ≡ rowOk plain m row
 
--- and of all m
-pub record StoredAll (m : ℕ) (rows : List (List Float)) (row : ℕ → List Float) (w w′ : List Float) (fine : Bool) : Type 0 where
-  pub held : ofRows m (m + 2) w (λ M rest. w′ ≡ flat rows rest)
-  pub judged : fine ≡ rowsOk plain m row
+-- and of every row of the system for n points
+pub record StoredAll (us ps q : List Float) (n : ℕ) (w w′ : List Float) (fine : Bool) : Type 0 where
+  pub held : ofRows (n + 2) (n + 2 + 2) w (λ M rest. w′ ≡ flat (foundFitRows us ps q n) rest)
+  pub judged : fine ≡ rowsOk plain (n + 2) (foundFitRow us ps q n)
+
+-- ---- past the rules 1 to 14
+
+abbrev pub lastRule : Bool → List Row
+lastRule fine = row 15 (not fine) ∷ []
+
+-- the curve of m control points that a solve answered, with the knots us and the verdict on the rows
+abbrev pub curveWith : ℕ → List Float → Bool → Solved → Built
+curveWith m us stored s = building (lastRule (not (someWild us 70) && (stored && s .fine))) (curveOver m us (s .xs) (s .ys))
+
+-- the curve through the points q
+abbrev pub interpolated : List Float → List Float → Making
+interpolated q work = making (building (lastRule (fitFine q)) (curveThrough q)) (workOf (controlsFor q) work)

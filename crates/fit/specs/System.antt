@@ -1,6 +1,7 @@
--- The linear system of the control points of a curve through n points, over any scalar. Document 01, "Fit points", decides: the rows say
+-- The linear system of the control points of a curve through n points, over any scalar. docs/RULES.md, "Fit points", decides: the rows say
 -- C''(0) = 0, C at each parameter, C''(1) = 0, and with n points there are m = n + 2 control points. A row is given by the number that stands at
--- each index of it, so that another form of fit makes other rows of the same `rowAt`.
+-- each index of it, so that another form of fit makes other rows of the same `rowAt`. n is the number of stations, the points that the curve passes
+-- one after the other; a further form of fit has other stations and other end rows, and n + 2 control points all the same.
 use mathlib.Core.Bool.{Bool, _&&_, cond}
 use mathlib.Core.List.{List, []}
 use Prim.Native.Nat.{ℕ, _+_, _-_}

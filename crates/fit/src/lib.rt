@@ -1,24 +1,23 @@
-// Curves through points: the parameters and knots, the system of the control points, and the build of both forms.
+// Curves through points: the parameters and knots, the system of the control points, and the build.
 ghost use mathlib.Core.Path.{_≡_};
-ghost use mathlib.Core.Bool.{not, _||_};
-ghost use mathlib.Core.List.{[], _∷_};
-ghost use Prim.Native.Nat.{_+_, _-_, _*_, _/_, _≤_, _<_};
+ghost use mathlib.Core.Bool.{_||_};
+ghost use Prim.Native.Nat.{_+_, _-_, _*_, _≤_, _<_};
 ghost use lib.ListN.{length};
 ghost use lib.Ieee.{nan};
 ghost use Rattle.meaning.specs.Scalar.{plain};
 ghost use Rattle.meaning.specs.Table.{at1};
-ghost use Rattle.meaning.specs.Refusals.{row};
 ghost use Rattle.meaning.specs.Search.{listed};
 ghost use Rattle.meaning.proofs.Filling.{Filled};
 ghost use Rattle.plane.specs.View.{view};
-ghost use Rattle.solve.specs.Outcome.{workOf};
+ghost use Rattle.shape.specs.Shape.{pointsIn};
 ghost use Rattle.fit.specs.Parameters.{pointAt, stepAt, sumOf, parameterAt, knotAt, knotsBy, fitParameter};
 ghost use Rattle.fit.specs.System.{spread, withSides};
-ghost use Rattle.fit.specs.Stored.{foundRow, foundFitRow, foundFitRows, Stored, StoredAt, StoredAll};
-ghost use Rattle.fit.specs.Fit.{pointsIn, controlsFor, workFor, curveThrough, allFine, curveWith, workShort, fitRules, workAfter, buildRules, curveOf, workOfBuild, AnswerCurve};
+ghost use Rattle.fit.specs.Fit.{making};
+ghost use Rattle.fit.specs.Fitting.{workFor, workShort, fitting};
+ghost use Rattle.fit.specs.Stored.{foundRow, foundFitRow, Stored, StoredAt, StoredAll, curveWith, interpolated};
 use curve::Built;
 use curve::Curve;
-use knots::Refusal;
+use knots::Form;
 use plane::P2;
 use solve::Solved;
 
@@ -227,7 +226,7 @@ fn fill_at<'a>(
 // Every row of the system. Answers whether all that is stored is finite.
 fn fill<'a>(w: &mut [f64], u: &'a [f64; 70], p: &'a [f64; 64], q: &'a [f64], n: usize) -> bool
     requires { ⌜ (n ≤ 64) × (2 * n ≤ length (now q)) × ((n + 2) * (n + 2 + 2) ≤ length (now w)) ⌝ }
-    ensures { λ b. ⌜ StoredAll (n + 2) (foundFitRows (now (u .entry)) (now (p .entry)) (now (q .entry)) n) (foundFitRow (now (u .entry)) (now (p .entry)) (now (q .entry)) n) (now (w .entry)) (now (w .exit)) b ⌝ }
+    ensures { λ b. ⌜ StoredAll (now (u .entry)) (now (p .entry)) (now (q .entry)) n (now (w .entry)) (now (w .exit)) b ⌝ }
 {
     let mut fine = true;
     let m = n + 2;
@@ -244,14 +243,14 @@ fn curve_with(m: usize, u: [f64; 70], stored: bool, s: Solved) -> Built
     requires { ⌜ m ≤ 66 ⌝ }
     ensures { λ r. ⌜ r ≡ curveWith m u stored s ⌝ }
 {
-    let wild = answer::first_wild(&u, 70) < 70;
+    let wild = outcome::first_wild(&u, 70) < 70;
     if !number::both(!wild, number::both(stored, s.fine)) {
-        return curve::refused(15);
+        return curve::refused(refusal::by(15));
     }
     let xs = s.xs;
     let ys = s.ys;
     Built {
-        refusal: Refusal { number: 0 },
+        refusal: refusal::by(0),
         curve: Curve {
             points: m,
             knot_count: m + 4,
@@ -263,10 +262,10 @@ fn curve_with(m: usize, u: [f64; 70], stored: bool, s: Solved) -> Built
 }
 
 // The curve through points that the rules 1 to 14 let through, or refusal 15.
-// Corresponds to 000 Curve::interpolate.
+// Corresponds to spline.rs: Curve::interpolate.
 fn interpolate(q: &[f64], work: &mut [f64]) -> Built
     requires { ⌜ (2 ≤ pointsIn (now q)) × (pointsIn (now q) ≤ 64) × (workFor (now q) ≤ length (now work)) ⌝ }
-    ensures { λ r. ⌜ AnswerCurve (row 15 (not (allFine (now (q .entry)))) ∷ []) (curveThrough (now (q .entry))) (workOf (controlsFor (now (q .entry))) (now (work .entry))) r (now (work .exit)) ⌝ }
+    ensures { λ r. ⌜ making r (now (work .exit)) ≡ interpolated (now (q .entry)) (now (work .entry)) ⌝ }
 {
     let n = q.len() / 2;
     let p = fit_parameters(q, n);
@@ -276,30 +275,20 @@ fn interpolate(q: &[f64], work: &mut [f64]) -> Built
     curve_with(n + 2, u, stored, s)
 }
 
-// The curve through fit points x, y in turn, by the rules for them. `short` tells whether a slice that the caller has for the answer is short, which is 14.
-// Corresponds to 000 BSpline::from_fit_points.
+// The curve through fit points x, y in turn, by the rules for them. `short` tells whether a slice that the caller has for the answer is short, which
+// is 14.
+// Corresponds to spline.rs: BSpline::from_fit_points.
 pub fn build_fit(q: &[f64], given: bool, knots: &[f64], short: bool, work: &mut [f64]) -> Built
-    ensures { λ r. ⌜ AnswerCurve (fitRules (now (q .entry)) given (now (knots .entry)) (workShort (now (q .entry)) (now (work .entry)) || short)) (curveThrough (now (q .entry))) (workAfter (now (q .entry)) given (now (knots .entry)) (workShort (now (q .entry)) (now (work .entry)) || short) (now (work .entry))) r (now (work .exit)) ⌝ }
+    ensures { λ r. ⌜ making r (now (work .exit))
+        ≡ fitting (now (q .entry)) given (now (knots .entry)) (workShort (now (q .entry)) (now (work .entry)) || short) (now (work .entry)) ⌝ }
 {
-    let r = curve::refused_handles(q, true, given, knots);
+    let r = shape::check_handles(Form::Fit, q, given, knots);
     if r.number != 0 {
-        return curve::refused(r.number);
+        return curve::refused(r);
     }
     let m = q.len() / 2 + 2;
     if number::either(work.len() < m * (m + 2), short) {
-        return curve::refused(14);
+        return curve::refused(refusal::by(14));
     }
     interpolate(q, work)
-}
-
-// The curve of handles x, y in turn: through them where `fit` says that they are fit points, else with them as control points over the knots, if any
-// are given. Fit points need work of m² + 2m doubles for m = n + 2 control points.
-// Corresponds to 000 BSpline::new.
-pub fn build(coords: &[f64], fit: bool, given: bool, knots: &[f64], work: &mut [f64]) -> Built
-    ensures { λ r. ⌜ AnswerCurve (buildRules fit (now (coords .entry)) given (now (knots .entry)) (now (work .entry))) (curveOf fit (now (coords .entry)) given (now (knots .entry))) (workOfBuild fit (now (coords .entry)) given (now (knots .entry)) (now (work .entry))) r (now (work .exit)) ⌝ }
-{
-    if fit {
-        return build_fit(coords, given, knots, false, work);
-    }
-    control::build_control(coords, given, knots)
 }

@@ -14,7 +14,8 @@ use Rattle.meaning.specs.Table.{at1}
 use Rattle.knots.specs.Rules.{knot}
 use Rattle.knots.proofs.Accepted.{Accepted}
 use Rattle.basis.specs.Basis.{basisOf}
-use Rattle.evaluate.specs.Point.{Shape, weighted}
+use Rattle.shape.specs.Shape.{Shape}
+use Rattle.evaluate.specs.Point.{weighted}
 use Rattle.hull.specs.Units.{U, plus, minus, riseOf}
 use Rattle.hull.specs.Hull.{leastOf, greatestOf, largestOf, InHull}
 use Rattle.hull.specs.Asked.{Coordinates, InDomain, spanAt, LongSpan, Modest}

@@ -16,7 +16,9 @@ use Rattle.meaning.specs.Root.{inUnits}
 use Rattle.meaning.specs.Scalar.{plain}
 use Rattle.meaning.specs.Table.{at1}
 use Rattle.meaning.specs.Loops.{turns}
-use Rattle.meaning.specs.Refusals.{firstOf}
+use Rattle.refusal.specs.Refusals.{firstOf}
+use Rattle.refusal.proofs.Rows.{Passed}
+use Rattle.knots.specs.declared.Form.the-variants.{Control}
 use Rattle.meaning.specs.Search.{seekFrom}
 use Rattle.knots.specs.Rules.{knot, count, knotRules}
 use Rattle.span.specs.Span.{spanOf}
@@ -24,7 +26,8 @@ use Rattle.meaning.proofs.Tests.{and-left, and-right}
 use Rattle.knots.proofs.Accepted.{Accepted, accepted}
 use Rattle.basis.specs.Triangle.{columnTurn, columnOf, sidesTurn, triangleOf}
 use Rattle.basis.specs.Basis.{valuesOf, functionOf, functionsOf, scaled, derivativesOf, basisOf}
-use Rattle.evaluate.specs.Point.{Shape, weighted, placed, insideOf, orderAt, ordersOf}
+use Rattle.shape.specs.Shape.{Shape}
+use Rattle.evaluate.specs.Point.{weighted, placed, insideOf, orderAt, ordersOf}
 use Rattle.hull.specs.Units.{U, riseOf, SizeAtMost}
 use Rattle.hull.specs.Hull.{lowest, leastOf, largestOf, AtMostBy, InHull}
 use Rattle.hull.specs.Asked.{AllDoubles, Coordinates, InDomain, spanAt, LongSpan, Modest}
@@ -68,7 +71,7 @@ doubles : {m k : ℕ} {l : List Float} → Sizes m k l → AllDoubles l
 doubles {m} {k} {l} s i h = is-double k _ (entry (sized k) l (s .each) i h)
 
 record Tested (c : Shape Float) (t : Float) : Type 0 where
-  rules : firstOf (knotRules (c .n) false true (take (c .n + 4) (c .knots))) ≡ 0
+  rules : Passed (knotRules Control (c .n) true (take (c .n + 4) (c .knots)))
   knots : Sizes (c .n + 4) 20 (c .knots)
   xs : Sizes (c .n) 500 (c .xs)
   ys : Sizes (c .n) 500 (c .ys)
@@ -122,7 +125,7 @@ up-to k = fin false 1 (pos k)
 abbrev down-to : ℕ → Float
 down-to k = fin true 1 (pos k)
 
--- ---- case A of document 01: (0,0), (0,8), (8,8), (8,0) with uniform knots, at 0.25
+-- ---- case A of docs/RULES.md: (0,0), (0,8), (8,8), (8,0) with uniform knots, at 0.25
 
 abbrev A : Shape Float
 A =
@@ -202,7 +205,7 @@ W =
       knots = down-to 1023 ∷ down-to 1023 ∷ down-to 1023 ∷ down-to 1023 ∷ up-to 1023 ∷ up-to 1023 ∷ up-to 1023 ∷ up-to 1023 ∷ [];
     }
 
-W-accepted : firstOf (knotRules (W .n) false true (take (W .n + 4) (W .knots))) ≡ 0
+W-accepted : Passed (knotRules Control (W .n) true (take (W .n + 4) (W .knots)))
 unfolding firstOf knotRules seekFrom count lt le eq ne
 W-accepted = refl
 

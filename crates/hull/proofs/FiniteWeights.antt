@@ -35,7 +35,6 @@ answer-room z n f u h k w = let a = near-five z n f w in omega arith
 
 -- ---- one step
 pub record Good (R L N : Float) : Type 0 where
-  pub fr : T (finite (to-right R L N))
   pub fl : T (finite (to-left R L N))
   pub made : Step R L N
   pub br : plus (to-right R L N) ≤ U * 8
@@ -82,7 +81,6 @@ module _ (R L N : Float) (e : Ends R L) (long : U ≤ (plus R + plus L) * 2 ^ 21
       let a : plus (to-right R L N) + plus (to-left R L N) ≤ U * 8 = answer-room (plus (to-right R L N) + plus (to-left R L N)) (plus N) (2 ^ 23) U s
       (lit≤ tt) (t .off .above) in
       record {
-        fr = right-fine;
         fl = left-fine;
         made = t;
         br = first-of (plus (to-right R L N)) (plus (to-left R L N)) (U * 8) a;

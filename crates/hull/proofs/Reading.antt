@@ -1,22 +1,23 @@
 -- From what a program tests to whole numbers: a finite double is a whole number of units, and `lt` and `le` compare these. Assumes nothing.
 use mathlib.Core.Path.{_≡_, refl, sym, ap, _∙_}
 use Prim.Native.Nat.{ℕ, zero, suc, _+_, _-_, _*_, _/_, _%_, _^_, _≤_, _<_}
-use native.Mathlib.Nat.{mul-pos, mul-div-cancel, mul-assoc, zero-mul, zero-div, lt-of-not-le, not-le-of-lt}
+use native.Mathlib.Nat.{mul-pos, mul-div-cancel, mul-assoc, zero-mul, zero-div}
 use native.Mathlib.Omega.{arith}
-use mathlib.Core.Bool.{Bool, true, false, _&&_, cond, true≢false}
+use mathlib.Core.Bool.{Bool, true, false, _&&_, true≢false}
 use borrow.Author.Tests.{ltb-true, ltb-false}
 use lib.IntN.{ℤ, pos, negsuc}
 use lib.Dec.{T, leb, ltb, eqb, leb→le}
-use lib.Pow.{pow-pos, pow-add, pow-lt}
+use lib.Pow.{pow-pos, pow-add}
 use lib.Ieee.{Float, nan, inf, fin, binary64, up, down, below, lt, le, fits}
 use lib.Ieee.Digits.{back}
 use lib.Ieee.Fits.{down-pos, and-l, and-r}
 use lib.Ieee.Exact.{HasValue}
 use lib.Ieee.Scale.{finite}
 use Rattle.meaning.specs.Root.{inUnits}
-use Rattle.meaning.proofs.Order.{le-not-lt}
+use Rattle.meaning.proofs.Order.{below-is, below-ratio, le-not-lt}
+use Rattle.meaning.proofs.Whole.{exponent}
 use Rattle.hull.specs.Units.{U, negative, plus, minus}
-use Rattle.hull.proofs.Values.{U-pos, ltb-same, left-part, right-part}
+use Rattle.hull.proofs.Values.{U-pos, left-part, right-part}
 use Rattle.hull.proofs.Operations.{Whole}
 
 -- ---- a double that is finite is a whole number of units: its power of two is 2 ^ -1074 or above
@@ -26,12 +27,6 @@ even-out v k l h =
     let e : v * 2 ^ l ≡ v * 2 ^ (l - k) * 2 ^ k = ap (λ (j : ℕ). v * 2 ^ j) (sym (back l k h)) ∙ ap (λ (z : ℕ). v * z) (pow-add 2 (l - k) k) ∙ sym
     (mul-assoc v (2 ^ (l - k)) (2 ^ k)) in
     ap (λ (z : ℕ). z / 2 ^ k * 2 ^ k) e ∙ ap (λ (z : ℕ). z * 2 ^ k) (mul-div-cancel (v * 2 ^ (l - k)) (pow-pos k)) ∙ sym e
-
-exponent : (k l : ℕ) → 2 ^ k ≤ 2 ^ l → k ≤ l
-exponent k l h = go (lt-of-not-le (λ (g : suc l ≤ k). not-le-of-lt (pow-lt {i = l} {j = k} g) h))
-  where
-    go : k < suc l → k ≤ l
-    go h = omega arith
 
 whole-down : (v : ℕ) (e : ℤ) → down e ≤ U → v * U / down e * down e ≡ v * U
 whole-down v (pos k) h = even-out v 0 1074 (omega arith)
@@ -55,12 +50,6 @@ whole (fin s (suc m) e) f h = (
 
 -- ---- `lt` on values that are given over one denominator
 
-below-same : (s t : Bool) (a b c a' b' c' : ℕ) → 0 < c → 0 < c' → a * c' ≡ a' * c → b * c' ≡ b' * c → below s a t b ≡ below s a' t b'
-below-same false false a b c a' b' c' C D p q = ltb-same a b c a' b' c' C D p q
-below-same false true a b c a' b' c' C D p q = refl
-below-same true false a b c a' b' c' C D p q = ltb-same 0 (a + b) c 0 (a' + b') c' C D (zero-mul c' ∙ sym (zero-mul c)) (omega arith)
-below-same true true a b c a' b' c' C D p q = ltb-same b a c b' a' c' C D q p
-
 lt-is : (x y : Float) (s t : Bool) (a b c : ℕ) → 0 < c → HasValue x s a c → HasValue y t b c → lt x y ≡ below s a t b
 unfolding lt
 lt-is nan y s t a b c C p q = absurd p
@@ -70,20 +59,8 @@ lt-is (fin s' m e) (inf t') s t a b c C p q = absurd q
 lt-is (fin s' m e) (fin t' n d) s t a b c C p q =
     ap (λ (z : Bool). below z (m * up e * down d) t' (n * up d * down e)) (p .0)
     ∙ ap (λ (z : Bool). below s (m * up e * down d) z (n * up d * down e)) (q .0)
-    ∙ below-same s t (m * up e * down d) (n * up d * down e) (down e * down d) a b c (mul-pos (down-pos e) (down-pos d)) C
-    (left-part (m * up e) a c (down e) (down d) (p .1)) (right-part (n * up d) b c (down e) (down d) (q .1))
-
-below-value : (s t : Bool) (a b : ℕ) → below s a t b ≡ true → cond s 0 a + cond t b 0 < cond t 0 b + cond s a 0
-below-value false false a b h = omega (arith, ltb-true a b h)
-below-value false true a b h = absurd (true≢false (sym h))
-below-value true false a b h = omega (arith, ltb-true 0 (a + b) h)
-below-value true true a b h = omega (arith, ltb-true b a h)
-
-above-value : (s t : Bool) (a b : ℕ) → below s a t b ≡ false → cond t 0 b + cond s a 0 ≤ cond s 0 a + cond t b 0
-above-value false false a b h = omega (arith, ltb-false a b h)
-above-value false true a b h = omega arith
-above-value true false a b h = omega (arith, ltb-false 0 (a + b) h)
-above-value true true a b h = omega (arith, ltb-false b a h)
+    ∙ below-ratio (m * up e * down d) (n * up d * down e) a b c (down e * down d) (left-part (m * up e) a c (down e) (down d) (p .1))
+    (right-part (n * up d) b c (down e) (down d) (q .1)) C (mul-pos (down-pos e) (down-pos d)) s t
 
 -- ---- the order of two finite doubles, by their units
 
@@ -95,14 +72,15 @@ abbrev pub Under : Float → Float → Type 0
 Under x y = plus x + minus y < plus y + minus x
 
 module _ (x y : Float) (p : Whole x) (q : Whole y) where
-  in-units : lt x y ≡ below (negative x) (inUnits x) (negative y) (inUnits y)
-  in-units = lt-is x y (negative x) (negative y) (inUnits x) (inUnits y) U U-pos p q
+  in-units : lt x y ≡ ltb (plus x + minus y) (plus y + minus x)
+  in-units =
+      lt-is x y (negative x) (negative y) (inUnits x) (inUnits y) U U-pos p q ∙ below-is (negative x) (negative y) (inUnits x) (inUnits y)
 
   pub lt-under : lt x y ≡ true → Under x y
-  lt-under h = below-value (negative x) (negative y) (inUnits x) (inUnits y) (sym in-units ∙ h)
+  lt-under h = ltb-true _ _ (sym in-units ∙ h)
 
   pub not-lt-at-most : lt x y ≡ false → AtMost y x
-  not-lt-at-most h = above-value (negative x) (negative y) (inUnits x) (inUnits y) (sym in-units ∙ h)
+  not-lt-at-most h = ltb-false _ _ (sym in-units ∙ h)
 
 pub le-at-most : (x y : Float) → Whole x → Whole y → le x y ≡ true → AtMost x y
 le-at-most x y p q h = not-lt-at-most y x q p (le-not-lt x y h)

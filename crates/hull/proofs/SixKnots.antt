@@ -25,7 +25,7 @@ use Rattle.knots.proofs.Sorted.{NotFalling, no-nan, ordered, front}
 use Rattle.knots.proofs.Repeats.{one-pass}
 use Rattle.knots.proofs.Accepted.{Accepted, number-no-nan}
 use Rattle.span.proofs.Spans.{Inside, span-inside}
-use Rattle.evaluate.specs.Point.{Shape}
+use Rattle.shape.specs.Shape.{Shape}
 use Rattle.hull.specs.Units.{U}
 use Rattle.hull.specs.Asked.{AllDoubles, InDomain, spanAt}
 use Rattle.hull.proofs.Operations.{Whole, one-part, parts}

@@ -1,4 +1,4 @@
--- Demand 3, for an accepted curve with knots of at most 2 ^ 20 in size and a parameter in its domain. `hull-point`: what is answered for the point
+-- Demand 3 (docs/RULES.md), for an accepted curve with knots of at most 2 ^ 20 in size and a parameter in its domain. `hull-point`: what is answered for the point
 -- lies, where it is finite, in the hull of its span's four control points. `never-refused`: where the span is at least 2 ^ -20 long and the
 -- coordinates are at most 2 ^ 500 in size, it is finite. Assumes nothing.
 use mathlib.Core.Path.{_≡_, refl, sym, ap, _∙_, subst}
@@ -19,7 +19,8 @@ use Rattle.span.specs.Span.{spanOf}
 use Rattle.meaning.proofs.Searching.{none-found, found-none}
 use Rattle.knots.proofs.Accepted.{Accepted}
 use Rattle.plane.specs.Vector.{Vector}
-use Rattle.evaluate.specs.Point.{Shape, placed, insideOf, ordersOf}
+use Rattle.shape.specs.Shape.{Shape}
+use Rattle.evaluate.specs.Point.{placed, insideOf, ordersOf}
 use Rattle.evaluate.proofs.Places.{in-domain}
 use Rattle.hull.specs.Hull.{InHull}
 use Rattle.hull.specs.Asked.{Coordinates, InDomain, spanAt, LongSpan, Modest}

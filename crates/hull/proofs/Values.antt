@@ -1,11 +1,11 @@
 -- The kit's operations on finite doubles whose values are given as fractions over one denominator; and that a finite result had finite operands.
 -- Assumes nothing.
-use mathlib.Core.Path.{_≡_, refl, sym, ap, _∙_, subst}
+use mathlib.Core.Path.{_≡_, sym, ap, _∙_, subst}
 use Prim.Native.Nat.{ℕ, suc, _+_, _-_, _*_, _/_, _^_, _<_}
-use native.Mathlib.Nat.{mul-comm, mul-pos, mul-div-cancel, mul-mul-mul-comm, eq-of-mul-eq-mul-right, zero-mul, mul-sub, lt-of-mul-lt-mul-right, mul-lt-mul-of-pos-right}
+use native.Mathlib.Nat.{mul-comm, mul-pos, mul-div-cancel, mul-mul-mul-comm, eq-of-mul-eq-mul-right, zero-mul, mul-sub}
 use native.Mathlib.Omega.{arith}
 use mathlib.Core.Bool.{Bool, true, false, _&&_, Bool·beq, cond}
-use lib.Dec.{T, ltb, eqb, ltb→lt, lt→ltb, eqb→eq}
+use lib.Dec.{T, ltb, eqb, ltb→lt, eqb→eq}
 use lib.Pow.{pow-pos}
 use lib.Ieee.{Float, nan, inf, fin, Format, binary64, prec, low, up, down, unlike, odd, units, round, sum, add, mul, div}
 use lib.Ieee.Fits.{round-is, down-pos}
@@ -14,6 +14,7 @@ use lib.Ieee.Order.{drop, kept}
 use lib.Ieee.Scale.{round-same, grid, overflow, finite}
 use lib.Ieee.Positive.{first-pos}
 use Rattle.meaning.specs.Root.{inUnits}
+use Rattle.meaning.proofs.Order.{ratio-lt}
 use Rattle.hull.specs.Units.{U}
 
 abbrev pub B : Format
@@ -98,22 +99,6 @@ div-is f (fin s' m e) (fin t' n d) s t a b c C D p q = go (eqb n 0) (eqb→eq n 
         (cross (m * up e) (n * up d) a b c (down e) (down d) C (p .1) (q .1))
 
 -- ---- the sum
-pub bool-same : (x y : Bool) → (T x → T y) → (T y → T x) → x ≡ y
-bool-same true true h k = refl
-bool-same true false h k = absurd (h tt)
-bool-same false true h k = absurd (k tt)
-bool-same false false h k = refl
-
-pub order-same : (a b c a' b' c' : ℕ) → 0 < c → 0 < c' → a * c' ≡ a' * c → b * c' ≡ b' * c → a < b → a' < b'
-order-same a b c a' b' c' C C' p q h =
-    let k : a * c' < b * c' = mul-lt-mul-of-pos-right h C' in
-    lt-of-mul-lt-mul-right c (omega arith)
-
-pub ltb-same : (a b c a' b' c' : ℕ) → 0 < c → 0 < c' → a * c' ≡ a' * c → b * c' ≡ b' * c → ltb a b ≡ ltb a' b'
-ltb-same a b c a' b' c' C C' p q =
-    bool-same (ltb a b) (ltb a' b') (λ (t : T (ltb a b)). lt→ltb a' b' (order-same a b c a' b' c' C C' p q (ltb→lt a b t)))
-    (λ (t : T (ltb a' b')). lt→ltb a b (order-same a' b' c' a b c C' C (sym p) (sym q) (ltb→lt a' b' t)))
-
 less-same : (a b c a' b' c' : ℕ) → a * c' ≡ a' * c → b * c' ≡ b' * c → (a - b) * c' ≡ (a' - b') * c
 less-same a b c a' b' c' p q = mul-comm (a - b) c' ∙ mul-sub c' a b ∙ middle ∙ sym (mul-comm (a' - b') c ∙ mul-sub c a' b')
   where
@@ -130,8 +115,8 @@ sum-same f s t a b c a' b' c' C C' p q =
     let e2 : round f t (b - a) c ≡ round f t (b' - a') c' = round-same f t (b - a) c (b' - a') c' C C' (less-same b a c b' a' c' q p) in
     let e3 : (z : Bool) → round f z (a - b) c ≡ round f z (a' - b') c' = λ z. round-same f z (a - b) c (a' - b') c' C C'
     (less-same a b c a' b' c' p q) in
-    let l1 : ltb a b ≡ ltb a' b' = ltb-same a b c a' b' c' C C' p q in
-    let l2 : ltb b a ≡ ltb b' a' = ltb-same b a c b' a' c' C C' q p in
+    let l1 : ltb a b ≡ ltb a' b' = ratio-lt a b a' b' c' c p q C' C in
+    let l2 : ltb b a ≡ ltb b' a' = ratio-lt b a b' a' c' c q p C' C in
     let e4 : round f (s && ltb b a) (a - b) c ≡ round f (s && ltb b' a') (a' - b') c' = e3 (s && ltb b a) ∙ ap
     (λ (z : Bool). round f (s && z) (a' - b') c') l2 in
     ap (λ (z : Float). cond (Bool·beq s t) z (cond (ltb a b) (round f t (b - a) c) (round f (s && ltb b a) (a - b) c))) e1

@@ -1,4 +1,4 @@
--- What demand 3 asks of a curve and a parameter, beside that the rules accept the curve's knots.
+-- What demand 3 (docs/RULES.md) asks of a curve and a parameter, beside that the rules accept the curve's knots.
 use mathlib.Core.Path.{_≡_}
 use mathlib.Core.Bool.{true, false}
 use mathlib.Core.List.{List}
@@ -11,7 +11,7 @@ use Rattle.meaning.specs.Scalar.{plain}
 use Rattle.meaning.specs.Table.{at1}
 use Rattle.knots.specs.Rules.{knot}
 use Rattle.span.specs.Span.{spanOf}
-use Rattle.evaluate.specs.Point.{Shape}
+use Rattle.shape.specs.Shape.{Shape}
 use Rattle.hull.specs.Units.{U, riseOf, SizeAtMost}
 
 -- every entry is a double, as in a list of a program's values

@@ -1,4 +1,4 @@
--- The hull of a span's four control points, one coordinate at a time. Demand 3 decides: from the least to the greatest of the four, widened by
+-- The hull of a span's four control points, one coordinate at a time. Demand 3 (docs/RULES.md) decides: from the least to the greatest of the four, widened by
 -- 2 ^ -47 of the largest size among them and by 2 ^ -1070.
 use mathlib.Core.Bool.{Bool, cond}
 use mathlib.Core.List.{List}

@@ -9,13 +9,14 @@ use lib.ListN.{length}
 use lib.Dec.{ltb}
 use lib.Ieee.{Float, nan, inf, fin, lt, eq, ne, isNan}
 use lib.Ieee.Scale.{finite}
-use Rattle.meaning.specs.Refusals.{firstOf}
+use Rattle.refusal.proofs.Rows.{Passed, row-passed, number-of}
+use Rattle.knots.specs.declared.Form.the-variants.{Control}
 use Rattle.meaning.proofs.Order.{not-lt-le, not-le-lt}
 use Rattle.meaning.specs.Search.{some}
 use Rattle.knots.specs.Rules.{knot, count, unfit, someUnfit, unlike, noInterval, crowded, knotRules}
 use Rattle.knots.specs.Repeat.{repeats}
 use Rattle.meaning.proofs.Tests.{or-left, or-right}
-use Rattle.knots.proofs.Refused.{row-passed, handles-passed, none-unfit}
+use Rattle.knots.proofs.Refused.{handles-passed, none-unfit}
 use Rattle.meaning.proofs.Searching.{none-found}
 use Rattle.knots.proofs.Sorted.{NotFalling, no-nan}
 use Rattle.knots.proofs.Repeats.{Sound, one-pass}
@@ -69,18 +70,19 @@ pub record Accepted (ks : List Float) (n : ℕ) : Type 0 where
   pub sound : Sound ks n
   pub few : (i : ℕ) → 4 ≤ i → i < n → count ks (knot ks i) ≤ 3
 
-pub accepted : (ks : List Float) (n : ℕ) → firstOf (knotRules n false true ks) ≡ 0 → Accepted ks n
-unfolding firstOf knotRules
+pub accepted : (ks : List Float) (n : ℕ) → Passed (knotRules Control n true ks) → Accepted ks n
+unfolding knotRules
 accepted ks n h =
-    let r2 = row-passed _ 1 _ h in
-    let r3 = row-passed _ 2 _ (r2 .1) in
-    let r4 = row-passed _ 3 _ (r3 .1) in
-    let r6 = row-passed _ 5 _ (r4 .1) in
+    let r2 = row-passed 1 _ _ h in
+    let r3 = row-passed 2 _ _ (r2 .1) in
+    let r4 = row-passed 3 _ _ (r3 .1) in
+    let r5 = row-passed 4 _ _ (r4 .1) in
+    let r6 = row-passed 5 _ _ (r5 .1) in
     let n66 = handles-passed n (r2 .0) (r3 .0) (r4 .0) in
-    let r7 = row-passed _ 6 _ (r6 .1) in
-    let r8 = row-passed _ 7 _ (r7 .1) in
-    let r9 = row-passed _ 8 _ (r8 .1) in
-    let r10 = row-passed _ 9 _ (r9 .1) in
+    let r7 = row-passed 6 _ _ (r6 .1) in
+    let r8 = row-passed 7 _ _ (r7 .1) in
+    let r9 = row-passed 8 _ _ (r8 .1) in
+    let r10 = row-passed 9 _ _ (r9 .1) in
     let long : length ks ≡ n + 4 = eqb-true _ _ (not-false _ (r6 .0)) in
     let starts = some 0 4 (unlike ks 0) in
     let ends = some n (n + 4) (unlike ks (n + 3)) in
@@ -95,7 +97,6 @@ accepted ks n h =
 -- ---- and back, with one pass for the repeats
 
 pub accepts : (ks : List Float) (n : ℕ) → 4 ≤ n → n ≤ 66 → length ks ≡ n + 4 → someUnfit ks ≡ false → some 0 4 (unlike ks 0) ≡ false
-    → some n (n + 4) (unlike ks (n + 3)) ≡ false → noInterval n ks ≡ false → some 1 n (repeats ks) ≡ false → firstOf (knotRules n false true ks) ≡ 0
+    → some n (n + 4) (unlike ks (n + 3)) ≡ false → noInterval n ks ≡ false → some 1 n (repeats ks) ≡ false → Passed (knotRules Control n true ks)
 accepts ks n f r long h a b i c =
-    none-unfit n (f, r) ks long h
-    ∙ rw (a, b, i, sym (one-pass ks n (sound ks n long h a b i) f) ∙ c)
+    number-of (none-unfit n (f, r) ks long h ∙ rw (a, b, i, sym (one-pass ks n (sound ks n long h a b i) f) ∙ c))

@@ -2,5 +2,6 @@
 pub mod Sorted
 pub mod Repeats
 pub mod Accepted
+pub mod Passing
 pub mod Refused
 pub mod LastRows

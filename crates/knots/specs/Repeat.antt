@@ -1,4 +1,4 @@
--- What the code looks for in place of the counts of rule 10. That it is found where the rule applies, once the rules before it do not,
+-- Inner: what the code looks for in place of the counts of rule 10. That it is found where the rule applies, once the rules before it do not,
 -- is shown in `proofs/Repeats.antt`; a reader of the rules needs `Rules.antt` alone.
 use mathlib.Core.Bool.{Bool}
 use mathlib.Core.List.{List}

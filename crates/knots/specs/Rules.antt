@@ -1,6 +1,6 @@
--- The rules 2 to 10 for a number of handles and a knot list. Document 01, "Refusal numbers", decides: each row is one of its table, in its
--- order, and each test compares as document 000's `check` does, so that -0.0 equals 0.0. n control points have n + 4 knots.
-use mathlib.Core.Bool.{Bool, not, _&&_, _||_, cond}
+-- The rules 2 to 10 for a number of handles and a knot list. docs/RULES.md, "Refusals", decides: each row is one of its table, in its
+-- order, and each test compares as the original's `check` does, so that -0.0 equals 0.0. n control points have n + 4 knots.
+use mathlib.Core.Bool.{Bool, true, false, not, _&&_, _||_, cond}
 use mathlib.Core.List.{List, [], _∷_}
 use Prim.Native.Nat.{ℕ, _+_, _-_}
 use lib.ListN.{length}
@@ -9,23 +9,36 @@ use lib.Ieee.{Float, lt, le, eq, ne}
 use lib.Ieee.Scale.{finite}
 use Rattle.meaning.specs.Scalar.{plain}
 use Rattle.meaning.specs.Table.{at1}
-use Rattle.meaning.specs.Refusals.{Row, row}
+use Rattle.refusal.specs.Refusals.{Row, row}
 use Rattle.meaning.specs.Search.{some}
+use Rattle.knots.specs.declared.Form.{Form}
+use Rattle.knots.specs.declared.Form.the-variants.{Control, Fit}
 
 -- knot i
 abbrev pub knot : List Float → ℕ → Float
 knot ks i = at1 plain ks i
 
--- ---- the number of handles, which are fit points or control points
+-- ---- the number of handles, by the form
 
 abbrev pub fewHandles : ℕ → Bool
 fewHandles handles = ltb handles 2
 
-abbrev pub noCubic : ℕ → Bool → Bool
-noCubic handles fit = not fit && (leb 2 handles && leb handles 3)
+-- control points that are no cubic's
+abbrev pub noCubic : Form → ℕ → Bool
+noCubic Control handles = leb 2 handles && leb handles 3
+noCubic Fit handles = false
 
-abbrev pub tooMany : ℕ → Bool → Bool
-tooMany handles fit = cond fit (ltb 64 handles) (ltb 66 handles)
+abbrev pub mostHandles : Form → ℕ
+mostHandles Control = 66
+mostHandles Fit = 64
+
+abbrev pub tooMany : Form → ℕ → Bool
+tooMany form handles = ltb (mostHandles form) handles
+
+-- knots can be given
+abbrev pub takesKnots : Form → Bool
+takesKnots Control = true
+takesKnots Fit = false
 
 -- ---- a list of knots for n control points
 
@@ -64,10 +77,10 @@ someCrowded n ks = some 4 n (crowded ks)
 
 -- ---- the table: a list of knots is judged where one is given, of whatever length
 
-unfoldable pub knotRules : ℕ → Bool → Bool → List Float → List Row
-knotRules handles fit given ks =
-    row 2 (fewHandles handles) ∷ row 3 (noCubic handles fit) ∷ row 4 (tooMany handles fit)
-    ∷ row 5 (given && fit)
+unfoldable pub knotRules : Form → ℕ → Bool → List Float → List Row
+knotRules form handles given ks =
+    row 2 (fewHandles handles) ∷ row 3 (noCubic form handles) ∷ row 4 (tooMany form handles)
+    ∷ row 5 (given && not (takesKnots form))
     ∷ row 6 (given && wrongCount handles ks) ∷ row 7 (given && someUnfit ks)
     ∷ row 8 (given && notClamped handles ks) ∷ row 9 (given && noInterval handles ks)
     ∷ row 10 (given && someCrowded handles ks)

@@ -4,36 +4,43 @@ ghost use mathlib.Core.Bool.{true, false};
 ghost use mathlib.Core.List.{[]};
 ghost use Prim.Native.Nat.{_+_, _≤_, _<_};
 ghost use lib.ListN.{length};
-ghost use Rattle.meaning.specs.Refusals.{firstOf};
+ghost use Rattle.refusal.specs.Refusals.{firstOf};
 ghost use Rattle.meaning.specs.Search.{seek};
 ghost use Rattle.knots.specs.Rules.{unfit, someUnfit, unlike, knotRules};
 ghost use Rattle.knots.specs.Repeat.{repeats};
+ghost use Rattle.knots.specs.declared.Form.the-variants.{Control};
+use refusal::Refusal;
 
-// Why a spline is refused: the number of the first rule that applies, or 0.
-pub struct Refusal {
-    pub number: u64,
+// What a spline's handles are: its control points, or points that it passes through.
+pub enum Form {
+    Control,
+    Fit,
 }
 
 // The rules on the number of handles alone: those of the table where no knots are given.
-fn refused_handles(handles: usize, fit: bool) -> u64
-    ensures { λ r. ⌜ r ≡ firstOf (knotRules handles fit false []) ⌝ }
+fn refused_handles(form: Form, handles: usize) -> Refusal
+    ensures { λ r. ⌜ r ≡ firstOf (knotRules form handles false []) ⌝ }
 {
     if handles < 2 {
-        return 2;
+        return refusal::by(2);
     }
-    if fit {
-        if handles > 64 {
-            return 4;
+    match form {
+        Form::Control => {
+            if handles < 4 {
+                return refusal::by(3);
+            }
+            if handles > 66 {
+                return refusal::by(4);
+            }
+            refusal::by(0)
         }
-        return 0;
+        Form::Fit => {
+            if handles > 64 {
+                return refusal::by(4);
+            }
+            refusal::by(0)
+        }
     }
-    if handles < 4 {
-        return 3;
-    }
-    if handles > 66 {
-        return 4;
-    }
-    0
 }
 
 // Whether knot i is not finite or less than the one before.
@@ -90,56 +97,55 @@ fn first_repeat(knots: &[f64], n: usize) -> usize
 }
 
 // The rules on the ends and on repeats, for n + 4 finite knots that do not fall.
-fn refused_ends(n: usize, knots: &[f64]) -> u64
+fn refused_ends(n: usize, knots: &[f64]) -> Refusal
     requires { ⌜ (4 ≤ n) × (n ≤ 66) ⌝ ∗ ⌜ length (now knots) ≡ n + 4 ⌝ ∗ ⌜ someUnfit (now knots) ≡ false ⌝ }
-    ensures { λ r. ⌜ r ≡ firstOf (knotRules n false true (now (knots .entry))) ⌝ }
+    ensures { λ r. ⌜ r ≡ firstOf (knotRules Control n true (now (knots .entry))) ⌝ }
 {
     let end = n + 4;
     let last = n + 3;
     if first_unlike(knots, 0, 4, 0) < 4 {
-        return 8;
+        return refusal::by(8);
     }
     if first_unlike(knots, n, end, last) < end {
-        return 8;
+        return refusal::by(8);
     }
     if knots[0] >= knots[last] {
-        return 9;
+        return refusal::by(9);
     }
     if first_repeat(knots, n) < n {
-        return 10;
+        return refusal::by(10);
     }
-    0
+    refusal::by(0)
 }
 
 // The rules on a list of knots for n control points.
-fn refused_list(n: usize, knots: &[f64]) -> u64
+fn refused_list(n: usize, knots: &[f64]) -> Refusal
     requires { ⌜ (4 ≤ n) × (n ≤ 66) ⌝ }
-    ensures { λ r. ⌜ r ≡ firstOf (knotRules n false true (now (knots .entry))) ⌝ }
+    ensures { λ r. ⌜ r ≡ firstOf (knotRules Control n true (now (knots .entry))) ⌝ }
 {
     if knots.len() != n + 4 {
-        return 6;
+        return refusal::by(6);
     }
     if first_unfit(knots) < knots.len() {
-        return 7;
+        return refusal::by(7);
     }
     refused_ends(n, knots)
 }
 
 // Why a spline of so many handles, with these knots where any are given, is refused by the rules 2 to 10.
-// Corresponds to 000 check.
-pub fn check(handles: usize, fit: bool, given: bool, knots: &[f64]) -> Refusal
-    ensures { λ r. ⌜ r .number ≡ firstOf (knotRules handles fit given (now (knots .entry))) ⌝ }
+// Corresponds to spline.rs: check.
+pub fn check(form: Form, handles: usize, given: bool, knots: &[f64]) -> Refusal
+    ensures { λ r. ⌜ r ≡ firstOf (knotRules form handles given (now (knots .entry))) ⌝ }
 {
-    let by_handles = refused_handles(handles, fit);
-    if by_handles != 0 {
-        return Refusal { number: by_handles };
+    let r = refused_handles(form, handles);
+    if r.number != 0 {
+        return r;
     }
     if !given {
-        return Refusal { number: 0 };
+        return refusal::by(0);
     }
-    if fit {
-        return Refusal { number: 5 };
+    match form {
+        Form::Control => refused_list(handles, knots),
+        Form::Fit => refusal::by(5),
     }
-    let by_list = refused_list(handles, knots);
-    Refusal { number: by_list }
 }

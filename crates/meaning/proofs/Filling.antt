@@ -1,10 +1,10 @@
 -- A list filled index by index, as a loop fills an array: its invariant, and what it leaves. Assumes nothing.
 use mathlib.Core.Path.{_≡_, refl, sym, ap, _∙_}
 use mathlib.Core.List.{List, _∷_, map}
-use mathlib.Core.Logic.{inl, inr}
 use Prim.Native.Nat.{ℕ, zero, suc, _+_, _≤_, _<_, zero-le}
-use native.Mathlib.Nat.{eq-or-lt-of-le, suc-add, zero-add, add-zero, add-suc}
+use native.Mathlib.Nat.{suc-add, zero-add, add-zero, add-suc}
 use native.Mathlib.Omega.{arith}
+use borrow.Author.Count.{below-more}
 use lib.ListN.{length, getD, set, replicate, length-set}
 use lib.Seq.{ext-getD, getD-set-same, getD-set-other}
 use Rattle.meaning.specs.Search.{listed}
@@ -51,14 +51,9 @@ module _ {A : Type 0} {f : ℕ → A} {z : A} {d : ℕ} where
       record {
         long = length-set l k v ∙ a .long;
         high = omega arith;
-        same = λ i g. elim (eq-or-lt-of-le (at-most i g)) [ inl q ↦ here i q | inr m ↦ getD-set-other l k i v z (λ q. absurd (omega arith)) ∙ a .same i m ];
+        same = below-more (λ i. getD (set l k v) i z ≡ f i) k (λ i m. getD-set-other l k i v z (λ q. absurd (omega arith)) ∙ a .same i m)
+            (getD-set-same l k v z (omega (arith, a .long)) ∙ e);
       }
-    where
-      at-most : (i : ℕ) → i < k + 1 → i ≤ k
-      at-most i g = omega arith
-
-      here : (i : ℕ) → i ≡ k → getD (set l k v) i z ≡ f i
-      here i q = rw q (getD-set-same l k v z (omega (arith, a .long)) ∙ e)
 
   pub full : {k : ℕ} {l : List A} → Filled f z d k l → d ≤ k → l ≡ listed 0 d f
   full {k} {l} a h =

@@ -1,10 +1,9 @@
--- The laws of tests, of loops and searches, of lists filled by index, of joined tables of refusals, of the order of doubles and of whole numbers among them.
+-- The laws of tests, of loops and searches, of lists filled by index, of the order of doubles and of whole numbers among them.
 pub mod Tests
 pub mod For
 pub mod While
 pub mod Searching
 pub mod Every
 pub mod Filling
-pub mod Rows
 pub mod Order
 pub mod Whole

@@ -10,7 +10,7 @@ use borrow.Author.Tests.{ltb-true, ltb-false, leb-true, leb-false, eqb-true, lt-
 use lib.Dec.{ltb, leb, eqb}
 use lib.Ieee.{Float, nan, inf, fin, up, down, below, level, lt, eq, le, isNan}
 use lib.Ieee.Fits.{down-pos}
-use Rattle.meaning.proofs.Tests.{no, or-false}
+use Rattle.meaning.proofs.Tests.{no, and-left, and-right, or-false}
 
 -- ---- tests
 
@@ -92,7 +92,7 @@ plus s a = cond s 0 a
 abbrev minus : Bool → ℕ → ℕ
 minus s a = cond s a 0
 
-below-is : (s t : Bool) (a b : ℕ) → below s a t b ≡ ltb (plus s a + minus t b) (plus t b + minus s a)
+pub below-is : (s t : Bool) (a b : ℕ) → below s a t b ≡ ltb (plus s a + minus t b) (plus t b + minus s a)
 below-is false false a b = ltb-same a b (a + 0) (b + 0) (λ h. omega arith) (λ h. omega arith)
 below-is false true a b = sym (le-ltb (a + b) (0 + 0) (omega arith))
 below-is true false a b = ltb-same 0 (a + b) (0 + 0) (b + a) (λ h. omega arith) (λ h. omega arith)
@@ -102,16 +102,10 @@ both : (a b : Bool) → a ≡ true → b ≡ true → a && b ≡ true
 both true b h g = g
 both false b h g = h
 
-first : (a b : Bool) → a && b ≡ true → a ≡ true
-first true b h = refl
-first false b h = h
-
-second : (a b : Bool) → a && b ≡ true → b ≡ true
-second true b h = h
-second false b h = no h
-
 level-is : (s t : Bool) (a b : ℕ) → level s a t b ≡ eqb (plus s a + minus t b) (plus t b + minus s a)
-level-is s t a b = same-test (level s a t b) (eqb (plus s a + minus t b) (plus t b + minus s a)) (λ h. eq-eqb _ _ (to s t (eqb-true a b (first (eqb a b) (Bool·beq s t || eqb a 0) h)) (second (eqb a b) (Bool·beq s t || eqb a 0) h))) (λ h. from s t (eqb-true _ _ h))
+level-is s t a b =
+    same-test (level s a t b) (eqb (plus s a + minus t b) (plus t b + minus s a))
+    (λ h. eq-eqb _ _ (to s t (eqb-true a b (and-left (eqb a b) _ h)) (and-right (eqb a b) _ h))) (λ h. from s t (eqb-true _ _ h))
   where
     to : (s t : Bool) → a ≡ b → Bool·beq s t || eqb a 0 ≡ true → plus s a + minus t b ≡ plus t b + minus s a
     to false false e h = omega arith
@@ -140,7 +134,7 @@ Sized D K (fin s m e) k = (k * down e ≡ m * up e * D) × (k < K)
 
 -- X / Y and a / b are one ratio
 module _ (X Y a b D F : ℕ) (p : X * D ≡ a * F) (q : Y * D ≡ b * F) (dp : 0 < D) (fp : 0 < F) where
-  ratio-lt : ltb X Y ≡ ltb a b
+  pub ratio-lt : ltb X Y ≡ ltb a b
   ratio-lt =
       ltb-same X Y a b
       (λ h. lt-of-mul-lt-mul-right F (rw (p, q) at (mul-lt-mul-of-pos-right h dp)))
@@ -152,19 +146,19 @@ module _ (X Y a b D F : ℕ) (p : X * D ≡ a * F) (q : Y * D ≡ b * F) (dp : 0
       (λ h. eq-of-mul-eq-mul-right F fp a b (sym p ∙ ap (λ (z : ℕ). z * D) h ∙ q))
       (λ h. eq-of-mul-eq-mul-right D dp X Y (p ∙ ap (λ (z : ℕ). z * F) h ∙ sym q))
 
+module _ (X Y a b D F : ℕ) (p : X * D ≡ a * F) (q : Y * D ≡ b * F) (dp : 0 < D) (fp : 0 < F) where
+  pub below-ratio : (s t : Bool) → below s X t Y ≡ below s a t b
+  below-ratio false false = ratio-lt X Y a b D F p q dp fp
+  below-ratio false true = refl
+  below-ratio true false = ratio-lt 0 (X + Y) 0 (a + b) D F (omega arith) (omega arith) dp fp
+  below-ratio true true = ratio-lt Y X b a D F q p dp fp
+
+  level-ratio : (s t : Bool) → level s X t Y ≡ level s a t b
+  level-ratio s t =
+      ap (λ (z : Bool). z && (Bool·beq s t || eqb X 0)) (ratio-eq X Y a b D F p q dp fp)
+      ∙ ap (λ (z : Bool). eqb a b && (Bool·beq s t || z)) (ratio-eq X 0 a 0 D F p (omega arith) dp fp)
+
 module _ (D K : ℕ) (dp : 0 < D) (kp : 0 < K) where
-  module _ (X Y a b F : ℕ) (p : X * D ≡ a * F) (q : Y * D ≡ b * F) (fp : 0 < F) where
-    below-ratio : (s t : Bool) → below s X t Y ≡ below s a t b
-    below-ratio false false = ratio-lt X Y a b D F p q dp fp
-    below-ratio false true = refl
-    below-ratio true false = ratio-lt 0 (X + Y) 0 (a + b) D F (omega arith) (omega arith) dp fp
-    below-ratio true true = ratio-lt Y X b a D F q p dp fp
-
-    level-ratio : (s t : Bool) → level s X t Y ≡ level s a t b
-    level-ratio s t =
-        ap (λ (z : Bool). z && (Bool·beq s t || eqb X 0)) (ratio-eq X Y a b D F p q dp fp)
-        ∙ ap (λ (z : Bool). eqb a b && (Bool·beq s t || z)) (ratio-eq X 0 a 0 D F p (omega arith) dp fp)
-
   crossed : (M k e d : ℕ) → k * e ≡ M * D → M * d * D ≡ k * (e * d)
   crossed M k e d h = mul-right-comm M d D ∙ ap (λ (z : ℕ). z * d) (sym h) ∙ mul-assoc k e d
 
@@ -195,8 +189,8 @@ module _ (D K : ℕ) (dp : 0 < D) (kp : 0 < K) where
       by true false = sym (lt-ltb 0 (a + b) (omega arith))
       by true true = sym (le-ltb b a (omega arith))
   lt-sized (fin s m e) (fin t n d) a b p q =
-      below-ratio (m * up e * down d) (n * up d * down e) a b (down e * down d) (crossed (m * up e) a (down e) (down d) (p .0))
-      (crossed (n * up d) b (down d) (down e) (q .0) ∙ ap (λ (z : ℕ). b * z) (mul-comm (down d) (down e))) (mul-pos (down-pos e) (down-pos d)) s t
+      below-ratio (m * up e * down d) (n * up d * down e) a b D (down e * down d) (crossed (m * up e) a (down e) (down d) (p .0))
+      (crossed (n * up d) b (down d) (down e) (q .0) ∙ ap (λ (z : ℕ). b * z) (mul-comm (down d) (down e))) dp (mul-pos (down-pos e) (down-pos d)) s t
 
   eq-sized : (x y : Float) (a b : ℕ) → Sized D K x a → Sized D K y b → eq x y ≡ level (sign x) a (sign y) b
   unfolding eq
@@ -207,8 +201,8 @@ module _ (D K : ℕ) (dp : 0 < D) (kp : 0 < K) where
   eq-sized (inf s) (fin t n d) a b p q = rw (ne-eqb a b (λ z. omega arith))
   eq-sized (fin s m e) (inf t) a b p q = rw (ne-eqb a b (λ z. omega arith))
   eq-sized (fin s m e) (fin t n d) a b p q =
-      level-ratio (m * up e * down d) (n * up d * down e) a b (down e * down d) (crossed (m * up e) a (down e) (down d) (p .0))
-      (crossed (n * up d) b (down d) (down e) (q .0) ∙ ap (λ (z : ℕ). b * z) (mul-comm (down d) (down e))) (mul-pos (down-pos e) (down-pos d)) s t
+      level-ratio (m * up e * down d) (n * up d * down e) a b D (down e * down d) (crossed (m * up e) a (down e) (down d) (p .0))
+      (crossed (n * up d) b (down d) (down e) (q .0) ∙ ap (λ (z : ℕ). b * z) (mul-comm (down d) (down e))) dp (mul-pos (down-pos e) (down-pos d)) s t
 
 -- ---- three values at whole numbers
 

@@ -5,6 +5,7 @@ use mathlib.Core.Logic.{inl, inr}
 use Prim.Native.Nat.{ℕ, zero, suc, _+_, _-_, _≤_, _<_}
 use native.Mathlib.Nat.{le-refl, eq-or-lt-of-le}
 use native.Mathlib.Omega.{arith}
+use borrow.Author.Count.{below-more}
 use borrow.Author.Tests.{ltb-true, ltb-false, lt-ltb, le-ltb}
 use Rattle.meaning.specs.Search.{seekFrom, seek, some}
 
@@ -96,11 +97,8 @@ module _ {p : ℕ → Bool} {lo hi : ℕ} where
       record {
         low = omega arith;
         high = omega arith;
-        before = λ i g l. elim (eq-or-lt-of-le (at-most i l)) [ inl q ↦ ap p q ∙ e | inr m ↦ a .before i g m ];
+        before = λ i g l. below-more (λ j. lo ≤ j → p j ≡ false) k (λ j m h. a .before j h m) (λ h. e) i l g;
       }
-    where
-      at-most : (i : ℕ) → i < k + 1 → i ≤ k
-      at-most i l = omega arith
 
   pub found : {k : ℕ} → Passed p lo hi k → k < hi → p k ≡ true → k ≡ seek lo hi p
   found {k} a h e = seek-is p lo hi k (record { low = a .low; high = a .high; before = a .before; found = λ l. e })

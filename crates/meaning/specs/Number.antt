@@ -1,4 +1,4 @@
--- What the curve code asks of a double beside its arithmetic: document 000's `abs`, `total_cmp` of two sizes and `clamp`.
+-- What the curve code asks of a double beside its arithmetic: the original's `abs`, `total_cmp` of two sizes and `clamp`.
 -- Whether a double is finite is the kit's own `finite` of `lib.Ieee.Scale`.
 use mathlib.Core.Bool.{Bool, true, false, not, cond}
 use lib.Ieee.{Float, nan, inf, fin, lt, isNan}

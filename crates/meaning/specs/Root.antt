@@ -1,4 +1,4 @@
--- The root of a double. Document 01, "Root", decides: +0.0 at or below 0, the double nearest to the exact root of a positive number,
+-- The root of a double. docs/RULES.md, "Root", decides: +0.0 at or below 0, the double nearest to the exact root of a positive number,
 -- and an infinity or a NaN as it is. `rootOf` says which double that is by computing it; `Nearest` says it by what every other double is not.
 -- That the two agree, and that `Nearest` leaves no choice, is proved in the crate `root`.
 use Prim.Native.Nat.{ℕ, zero, suc, _+_, _*_, _/_, _^_, _<_}

@@ -1,4 +1,4 @@
--- The scalar: every definition of a curve is written once, over this record. Document 000's trait `Scalar` with the four operators and the
+-- The scalar: every definition of a curve is written once, over this record. The original's trait `Scalar` with the four operators and the
 -- negation. The crate `partials` has the other instance.
 use mathlib.Core.Bool.{Bool}
 use lib.Ieee.{Float, binary64, nan, add, sub, mul, div, neg, ofBits}

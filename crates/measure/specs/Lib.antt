@@ -1,2 +1,2 @@
 -- The polygon's length and the domain.
-pub mod Length
+pub mod Measure

@@ -1,6 +1,6 @@
 -- What comparisons tell of a double: whether it is finite, its size, and the order of two sizes. Assumes nothing.
 use mathlib.Core.Path.{_≡_, refl, sym, ap, _∙_}
-use mathlib.Core.Bool.{Bool, true, false, not, _&&_, cond}
+use mathlib.Core.Bool.{Bool, true, false, not, cond}
 use Prim.Native.Nat.{ℕ, zero, suc, _+_, _*_}
 use native.Mathlib.Nat.{zero-mul, mul-one, zero-add}
 use native.Mathlib.Omega.{arith}
@@ -12,6 +12,7 @@ use lib.Ieee.Scale.{finite}
 use lib.Ieee.Back.{whole-unique}
 use Rattle.meaning.specs.Scalar.{zero64}
 use Rattle.meaning.specs.Number.{sizeOf, smaller}
+use Rattle.meaning.proofs.Tests.{and-left}
 use Rattle.number.specs.Magnitude.{magnitudeOf}
 
 -- ---- finite
@@ -36,10 +37,6 @@ eq-zero : (s : Bool) (m : ℕ) (e : ℤ) → eq (fin s m e) zero64 ≡ level s (
 unfolding eq ofBits
 eq-zero s m e = ap (λ (k : ℕ). level s k false (0 * 1 * down e)) (mul-one (m * up e)) ∙ ap (level s (m * up e) false) (zero-mul (down e))
 
-first-holds : (a b : Bool) → a && b ≡ true → a ≡ true
-first-holds true b h = refl
-first-holds false b h = h
-
 -- ---- the size
 
 -- below zero the sign is a minus, which the negation takes off
@@ -62,7 +59,7 @@ unfolding eq sizeOf ofBits fits
 size-zero nan f h = let z : _≡_ {A = Bool} false true = h in cc
 size-zero (inf s) f h = let z : _≡_ {A = Bool} false true = h in cc
 size-zero (fin s m e) f h =
-    let none : m * up e ≡ 0 = eqb-true (m * up e) 0 (first-holds _ _ (sym (eq-zero s m e) ∙ h)) in
+    let none : m * up e ≡ 0 = eqb-true (m * up e) 0 (and-left _ _ (sym (eq-zero s m e) ∙ h)) in
     whole-unique binary64 (fin false 0 (pos 0)) (fin false m e) false 0 tt (unsigned-fits s m e f) (refl, refl) (refl, mul-one (m * up e) ∙ none ∙ sym (zero-mul (down e)))
 
 -- neither below zero nor zero: no minus sign

@@ -1,4 +1,4 @@
--- The size of a double but for a minus zero, which stays as it is.
+-- Inner: the size of a double but for a minus zero, which stays as it is.
 use mathlib.Core.Bool.{cond}
 use lib.Ieee.{Float, lt, neg}
 use Rattle.meaning.specs.Scalar.{zero64}

@@ -6,7 +6,7 @@ ghost use Rattle.meaning.specs.Number.{sizeOf, smaller, atLeast, clampOf};
 ghost use Rattle.number.specs.Magnitude.{magnitudeOf};
 
 // Whether x is neither a NaN nor an infinity.
-// Corresponds to 000 f64::is_finite.
+// Corresponds to spline.rs: f64::is_finite.
 pub fn is_finite(x: f64) -> bool
     ensures { λ r. ⌜ r ≡ finite x ⌝ }
 {
@@ -15,7 +15,7 @@ pub fn is_finite(x: f64) -> bool
 }
 
 // x without its sign. A zero is set, since minus zero does not compare below zero.
-// Corresponds to 000 f64::abs.
+// Corresponds to spline.rs: f64::abs.
 pub fn size(x: f64) -> f64
     ensures { λ r. ⌜ r ≡ sizeOf x ⌝ }
 {
@@ -39,7 +39,7 @@ fn magnitude(x: f64) -> f64
 }
 
 // Whether the size of x stands before that of y in totalOrder, where a NaN is the last.
-// Corresponds to 000 f64::total_cmp of two f64::abs.
+// Corresponds to spline.rs: f64::total_cmp of two f64::abs.
 pub fn is_smaller(x: f64, y: f64) -> bool
     ensures { λ r. ⌜ r ≡ smaller x y ⌝ }
 {
@@ -53,7 +53,7 @@ pub fn is_smaller(x: f64, y: f64) -> bool
 }
 
 // Whether the size of x is that of y or stands after it: of two equal sizes the later is at least the earlier.
-// Corresponds to 000 the choice that max_by makes with total_cmp.
+// Corresponds to spline.rs: the choice that max_by makes with total_cmp.
 pub fn at_least(x: f64, y: f64) -> bool
     ensures { λ r. ⌜ r ≡ atLeast x y ⌝ }
 {
@@ -61,7 +61,7 @@ pub fn at_least(x: f64, y: f64) -> bool
 }
 
 // x, or the end of lo to hi that it lies past; a zero keeps its sign, a NaN stays.
-// Corresponds to 000 f64::clamp.
+// Corresponds to spline.rs: f64::clamp.
 pub fn clamp(x: f64, lo: f64, hi: f64) -> f64
     ensures { λ r. ⌜ r ≡ clampOf x lo hi ⌝ }
 {

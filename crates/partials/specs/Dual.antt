@@ -1,4 +1,4 @@
--- A value with its partials. Document 01, "Partials", decides what is missing and what is counted; document 000's `Dv` the operations and their
+-- A value with its partials. docs/RULES.md, "Partials", decides what is missing and what is counted; the original's `Dv` the operations and their
 -- order. `dual` is the scalar's second instance.
 use Prim.Native.Nat.{ℕ, _+_, min, max}
 use mathlib.Core.Bool.{Bool, _&&_, cond}
@@ -29,12 +29,12 @@ partOf d k = partAt (d .g) (countOf d) k
 unfoldable pub partials : ℕ → (ℕ → Float) → List Float
 partials n f = run 0 n (λ k l. set l k (f k)) (replicate 27 zero64)
 
--- 000's `zip`: f of the two partials, as far as the longer reaches
+-- the original's `zip`: f of the two partials, as far as the longer reaches
 unfoldable pub zipDv : (Float → Float → Float) → Float → Dv → Dv → Dv
 unfolding partials
 zipDv f v a b = let n = max (countOf a) (countOf b) in record { v = v; g = partials n (λ k. f (partOf a k) (partOf b k)); n = n }
 
--- 000's `map`: each partial times f
+-- the original's `map`: each partial times f
 unfoldable pub mapDv : Float → Float → Dv → Dv
 unfolding partials
 mapDv v f a = record { v = v; g = partials (countOf a) (λ k. mul binary64 (partOf a k) f); n = countOf a }
@@ -79,7 +79,7 @@ unfoldable pub rootDv : Dv → Dv
 unfolding cstDv mapDv
 rootDv a = let r = rootOf (a .v) in cond (le (a .v) zero64) (cstDv zero64) (mapDv r (div binary64 (ofBits binary64 0x3fe0_0000_0000_0000) r) a)
 
--- how far t lies outside lo to hi: 000's `overshoot`
+-- how far t lies outside lo to hi: the original's `overshoot`
 unfoldable pub overshootDv : Dv → Float → Float → Dv
 unfolding cstDv subDv
 overshootDv t lo hi = cond (lt (t .v) lo) (subDv t (cstDv lo)) (cond (lt hi (t .v)) (subDv t (cstDv hi)) (cstDv zero64))

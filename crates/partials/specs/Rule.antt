@@ -1,4 +1,4 @@
--- How two partials are put together: the code names the rule of an operation, since it has no closures. Only private contracts cite this.
+-- Inner: how two partials are put together: the code names the rule of an operation, since it has no closures. Only private contracts cite this.
 use lib.Ieee.{Float, binary64, add, sub, mul, div}
 use Rattle.partials.specs.declared.Rule.{Rule}
 use Rattle.partials.specs.declared.Rule.the-variants.{Add, Sub, Mul, Div}

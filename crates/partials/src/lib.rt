@@ -1,4 +1,4 @@
-// A value with its partials, and the operations on it: document 000's `Dv`, with an array of 27 for its vector.
+// A value with its partials, and the operations on it: the original's `Dv`, with an array of 27 for its vector.
 ghost use mathlib.Core.Path.{_≡_};
 ghost use Prim.Native.Nat.{_≤_, _<_, min, max};
 ghost use lib.Ieee.{binary64, mul};
@@ -85,7 +85,7 @@ fn zipped(rule: Rule, a: Dv, b: Dv, n: usize) -> [f64; 27]
 }
 
 // The value v, with partials by a rule as far as the longer of a and b reaches.
-// Corresponds to 000 Dv::zip.
+// Corresponds to spline.rs: Dv::zip.
 fn zip(rule: Rule, v: f64, a: Dv, b: Dv) -> Dv
     ensures { λ r. ⌜ r ≡ zipDv (ruleOf rule (a .v) (b .v)) v a b ⌝ }
 {
@@ -108,7 +108,7 @@ fn scaled(a: &[f64; 27], n: usize, f: f64) -> [f64; 27]
 
 impl Dv {
     // The constant x: it has no partials.
-    // Corresponds to 000 Scalar::cst of Dv.
+    // Corresponds to spline.rs: Scalar::cst of Dv.
     pub fn cst(x: f64) -> Dv
         ensures { λ r. ⌜ r ≡ cstDv x ⌝ }
     {
@@ -120,7 +120,7 @@ impl Dv {
     }
 
     // Variable i of xs, with the partial 1.0 with respect to itself; +0.0 with no partials where there is no such variable.
-    // Corresponds to 000 Dv::var.
+    // Corresponds to spline.rs: Dv::var.
     pub fn var(xs: &[f64], i: usize) -> Dv
         ensures { λ r. ⌜ r ≡ varDv (now (xs .entry)) i ⌝ }
     {
@@ -140,7 +140,7 @@ impl Dv {
     }
 
     // self + o.
-    // Corresponds to 000 Add::add of Dv.
+    // Corresponds to spline.rs: Add::add of Dv.
     pub fn add(self, o: Dv) -> Dv
         ensures { λ r. ⌜ r ≡ addDv self o ⌝ }
     {
@@ -148,7 +148,7 @@ impl Dv {
     }
 
     // self - o.
-    // Corresponds to 000 Sub::sub of Dv.
+    // Corresponds to spline.rs: Sub::sub of Dv.
     pub fn sub(self, o: Dv) -> Dv
         ensures { λ r. ⌜ r ≡ subDv self o ⌝ }
     {
@@ -156,7 +156,7 @@ impl Dv {
     }
 
     // self * o.
-    // Corresponds to 000 Mul::mul of Dv.
+    // Corresponds to spline.rs: Mul::mul of Dv.
     pub fn mul(self, o: Dv) -> Dv
         ensures { λ r. ⌜ r ≡ mulDv self o ⌝ }
     {
@@ -164,7 +164,7 @@ impl Dv {
     }
 
     // self / o.
-    // Corresponds to 000 Div::div of Dv.
+    // Corresponds to spline.rs: Div::div of Dv.
     pub fn div(self, o: Dv) -> Dv
         ensures { λ r. ⌜ r ≡ divDv self o ⌝ }
     {
@@ -172,7 +172,7 @@ impl Dv {
     }
 
     // The value v, with self's partials times f.
-    // Corresponds to 000 Dv::map.
+    // Corresponds to spline.rs: Dv::map.
     pub fn map(self, v: f64, f: f64) -> Dv
         ensures { λ r. ⌜ r ≡ mapDv v f self ⌝ }
     {
@@ -183,7 +183,7 @@ impl Dv {
     }
 
     // -self.
-    // Corresponds to 000 Neg::neg of Dv.
+    // Corresponds to spline.rs: Neg::neg of Dv.
     pub fn neg(self) -> Dv
         ensures { λ r. ⌜ r ≡ negDv self ⌝ }
     {
@@ -191,7 +191,7 @@ impl Dv {
     }
 
     // The root of self: the constant +0.0 at or below 0.
-    // Corresponds to 000 Scalar::sqrt of Dv.
+    // Corresponds to spline.rs: Scalar::sqrt of Dv.
     pub fn root(self) -> Dv
         ensures { λ r. ⌜ r ≡ rootDv self ⌝ }
     {
@@ -203,7 +203,7 @@ impl Dv {
     }
 
     // How far self lies outside lo to hi: the constant +0.0 inside.
-    // Corresponds to 000 overshoot.
+    // Corresponds to spline.rs: overshoot.
     pub fn overshoot(self, lo: f64, hi: f64) -> Dv
         ensures { λ r. ⌜ r ≡ overshootDv self lo hi ⌝ }
     {

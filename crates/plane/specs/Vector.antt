@@ -1,4 +1,4 @@
--- Vectors of the plane, over any scalar. Document 000's `P2` decides the operations and their order.
+-- Vectors of the plane, over any scalar. The original's `P2` decides the operations and their order.
 use mathlib.Core.Bool.{cond}
 use lib.Ieee.{Float, binary64, mul, lt, ofBits}
 use Rattle.meaning.specs.Scalar.{Ops, plain, zero64, one64}
@@ -24,7 +24,7 @@ module _ {A : Type 0} (o : Ops A) where
   abbrev pub dotV : Vector A → Vector A → A
   dotV a b = o .plus (o .times (a .x) (b .x)) (o .times (a .y) (b .y))
 
-  -- The root of the square; of a near-zero vector it is a constant. (000 takes the greater of the square and 0 there, which is the square.)
+  -- The root of the square; of a near-zero vector it is a constant. (the original takes the greater of the square and 0 there, which is the square.)
   unfoldable pub normV : Vector A → A
   normV a = let sq = dotV a a in cond (lt (o .val sq) degenerate) (o .cst (plain .root (o .val sq))) (o .root sq)
 

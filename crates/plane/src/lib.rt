@@ -1,4 +1,4 @@
-// Vectors of the plane, of doubles and of values with partials: document 000's `P2`.
+// Vectors of the plane, of doubles and of values with partials: the original's `P2`.
 ghost use mathlib.Core.Path.{_≡_};
 ghost use Rattle.meaning.specs.Scalar.{plain};
 ghost use Rattle.partials.specs.Dual.{dual};
@@ -13,7 +13,7 @@ pub struct P2 {
 
 impl P2 {
     // self + o.
-    // Corresponds to 000 P2::add.
+    // Corresponds to spline.rs: P2::add.
     pub fn add(self, o: P2) -> P2
         ensures { λ r. ⌜ view r ≡ addV plain (view self) (view o) ⌝ }
     {
@@ -24,7 +24,7 @@ impl P2 {
     }
 
     // self - o.
-    // Corresponds to 000 P2::sub.
+    // Corresponds to spline.rs: P2::sub.
     pub fn sub(self, o: P2) -> P2
         ensures { λ r. ⌜ view r ≡ subV plain (view self) (view o) ⌝ }
     {
@@ -35,7 +35,7 @@ impl P2 {
     }
 
     // k times self.
-    // Corresponds to 000 P2::scale.
+    // Corresponds to spline.rs: P2::scale.
     pub fn scale(self, k: f64) -> P2
         ensures { λ r. ⌜ view r ≡ scaleV plain (view self) k ⌝ }
     {
@@ -46,7 +46,7 @@ impl P2 {
     }
 
     // The inner product of self and o.
-    // Corresponds to 000 P2::dot.
+    // Corresponds to spline.rs: P2::dot.
     pub fn dot(self, o: P2) -> f64
         ensures { λ r. ⌜ r ≡ dotV plain (view self) (view o) ⌝ }
     {
@@ -54,7 +54,7 @@ impl P2 {
     }
 
     // The length of self.
-    // Corresponds to 000 P2::norm.
+    // Corresponds to spline.rs: P2::norm.
     pub fn norm(self) -> f64
         ensures { λ r. ⌜ r ≡ normV plain (view self) ⌝ }
     {
@@ -66,7 +66,7 @@ impl P2 {
     }
 
     // The direction of self, or (1, 0) where it has none.
-    // Corresponds to 000 P2::unit.
+    // Corresponds to spline.rs: P2::unit.
     pub fn unit(self) -> P2
         ensures { λ r. ⌜ view r ≡ unitV plain (view self) ⌝ }
     {
@@ -89,7 +89,7 @@ pub struct P2d {
 
 impl P2d {
     // self + o.
-    // Corresponds to 000 P2::add.
+    // Corresponds to spline.rs: P2::add.
     pub fn add(self, o: P2d) -> P2d
         ensures { λ r. ⌜ viewD r ≡ addV dual (viewD self) (viewD o) ⌝ }
     {
@@ -99,7 +99,7 @@ impl P2d {
     }
 
     // self - o.
-    // Corresponds to 000 P2::sub.
+    // Corresponds to spline.rs: P2::sub.
     pub fn sub(self, o: P2d) -> P2d
         ensures { λ r. ⌜ viewD r ≡ subV dual (viewD self) (viewD o) ⌝ }
     {
@@ -109,7 +109,7 @@ impl P2d {
     }
 
     // k times self.
-    // Corresponds to 000 P2::scale.
+    // Corresponds to spline.rs: P2::scale.
     pub fn scale(self, k: Dv) -> P2d
         ensures { λ r. ⌜ viewD r ≡ scaleV dual (viewD self) k ⌝ }
     {
@@ -119,7 +119,7 @@ impl P2d {
     }
 
     // The inner product of self and o.
-    // Corresponds to 000 P2::dot.
+    // Corresponds to spline.rs: P2::dot.
     pub fn dot(self, o: P2d) -> Dv
         ensures { λ r. ⌜ r ≡ dotV dual (viewD self) (viewD o) ⌝ }
     {
@@ -129,7 +129,7 @@ impl P2d {
     }
 
     // The length of self: a constant where self is near zero.
-    // Corresponds to 000 P2::norm.
+    // Corresponds to spline.rs: P2::norm.
     pub fn norm(self) -> Dv
         ensures { λ r. ⌜ r ≡ normV dual (viewD self) ⌝ }
     {
@@ -141,7 +141,7 @@ impl P2d {
     }
 
     // The direction of self, or the constant (1, 0) where it has none.
-    // Corresponds to 000 P2::unit.
+    // Corresponds to spline.rs: P2::unit.
     pub fn unit(self) -> P2d
         ensures { λ r. ⌜ viewD r ≡ unitV dual (viewD self) ⌝ }
     {

@@ -1,2 +1,2 @@
 -- The point, its derivatives and the unit tangent at a parameter.
-pub mod Evaluate
+pub mod Point

@@ -1,4 +1,4 @@
--- What a pattern stands for, which the private functions of this crate say in their contracts: they work on patterns and not on doubles.
+-- Inner: what a pattern stands for, which the private functions of this crate say in their contracts: they work on patterns and not on doubles.
 -- No caller needs it: `root`'s contract is `rootOf` of `meaning` alone.
 use Prim.Native.Nat.{ℕ, _+_, _-_, _*_, _/_, _%_, _^_}
 use mathlib.Core.Bool.{cond}

@@ -103,7 +103,7 @@ fn root_bits(b: u64) -> u64
 }
 
 // The double nearest to the exact root of x; +0.0 where x is 0 or below it; an infinity or a NaN as it is.
-// Corresponds to 000 f64::sqrt (as Scalar::sqrt uses it).
+// Corresponds to spline.rs: f64::sqrt (as Scalar::sqrt uses it).
 pub fn root(x: f64) -> f64
     ensures { λ r. ⌜ r ≡ rootOf x ⌝ }
 {

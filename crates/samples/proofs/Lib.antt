@@ -1,4 +1,2 @@
--- An answer with its count, and the samples in their room.
-pub mod Counted
+-- The samples in their room.
 pub mod Sampled
-pub mod Determined

@@ -1,28 +1,31 @@
 -- The samples in their room: pair after pair, then the end. Assumes nothing.
-use mathlib.Core.Path.{_≡_, refl, sym, ap, _∙_}
+use mathlib.Core.Path.{_≡_, refl, sym, ap, _∙_, subst}
 use mathlib.Core.Bool.{Bool, true, false, not, cond}
 use mathlib.Core.List.{List, [], _∷_, _++_}
 use Prim.Native.Nat.{ℕ, suc, _+_, _*_, _≤_, _<_}
 use native.Mathlib.Nat.{le-refl, zero-add}
-use borrow.Author.Tests.{ne-eqb}
+use borrow.Author.Tests.{le-leb, eq-eqb, ne-eqb}
 use native.Mathlib.Numerals.{add-one}
 use native.Mathlib.Omega.{arith}
 use lib.ListN.{length, getD, set, take, drop, length-append, List·getD-append}
 use lib.Seq.{paste, take-append-seam, take-length, take-at, take-all, drop-append-add, drop-drop, drop-cons, set-at, append-snoc}
-use lib.Dec.{eqb, ltb}
+use lib.Dec.{ltb}
 use lib.Ieee.{Float, nan, lt}
 use lib.Ieee.Scale.{finite}
 use Rattle.meaning.specs.Scalar.{plain}
 use Rattle.meaning.specs.Table.{at1}
 use Rattle.meaning.specs.Loops.{turns, run}
-use Rattle.meaning.specs.Refusals.{Row, row, firstOf}
+use Rattle.refusal.specs.declared.Refusal.{Refusal}
+use Rattle.refusal.specs.Refusals.{row, firstOf, isNone}
 use Rattle.meaning.specs.Search.{some, listed}
 use Rattle.meaning.proofs.Filling.{length-listed, nth-listed}
 use Rattle.meaning.proofs.Searching.{some-found, none-found, found-some, found-none}
 use Rattle.meaning.proofs.Tests.{by-two}
-use Rattle.evaluate.specs.Point.{Shape}
-use Rattle.answer.specs.Answer.{someWild, deliveryRules, Answer}
-use Rattle.samples.specs.Samples.{sampleAt, risingSamples, pairSamples, samplesOf}
+use Rattle.shape.specs.Shape.{Shape}
+use Rattle.outcome.specs.Outcome.{someWild, deliveryRules, Outcome, outcome, answering}
+use Rattle.outcome.proofs.Doors.{Leaves}
+use Rattle.samples.specs.Walk.{Walked, walked, walkOf}
+use Rattle.samples.specs.Samples.{sampleAt, risingSamples, pairSamples, samplesOf, counted, counting}
 
 -- sample s of the list
 pub sample-is : (w0 w1 : Float) (per s : ℕ) → s < per → getD (listed 0 per (sampleAt w0 w1 per)) s nan ≡ sampleAt w0 w1 per s
@@ -110,13 +113,14 @@ pub paste-front : (out l r : List Float) → paste out 0 (l ++ r) (length l) ≡
 paste-front out l r = ap (λ (x : List Float). take 0 out ++ x ++ drop (0 + length l) out) (take-append-seam l r ∙ sym (take-length l))
 
 -- so numbers at the front of a longer room are delivered as if they were alone
-pub delivered-front : (room l r out : List Float) {k m : ℕ} {out′ : List Float} → room ≡ l ++ r → k ≡ length l
-    → Answer (deliveryRules room k out) room k out m out′ → Answer (deliveryRules l (length l) out) l (length l) out m out′
-delivered-front room l r out {k} {m} {out′} e n a =
-    let b : Answer (deliveryRules (l ++ r) (length l) out) (l ++ r) (length l) out m out′ = rw (e, n) at a in
+pub delivered-front : (room l r out : List Float) {k : ℕ} {o : Outcome} → room ≡ l ++ r → k ≡ length l
+    → o ≡ answering (deliveryRules room k out) room k out → Leaves (deliveryRules l (length l) out) l (length l) out o
+unfolding answering
+delivered-front room l r out {k} {o} e n a =
+    let b : o ≡ answering (deliveryRules (l ++ r) (length l) out) (l ++ r) (length l) out = rw (e, n) at a in
     let w : firstOf (deliveryRules (l ++ r) (length l) out) ≡ firstOf (deliveryRules l (length l) out) =
     ap (λ (t : Bool). firstOf (row 14 (ltb (length out) (length l)) ∷ row 15 t ∷ [])) (wild-front l r) in
-    record { refusal = b .refusal ∙ w; written = b .written ∙ λ i. cond (eqb (w i) 0) (paste-front out l r i) out }
+    record { is = b ∙ λ i. outcome (w i) (cond (isNone (w i)) (paste-front out l r i) out) }
 
 -- ---- all of the samples, and their count
 
@@ -135,10 +139,25 @@ module _ (c : Shape Float) (per : ℕ) where
   samples-room room₀ {room} {at} h e q =
       ap (λ (x : List Float). set x at (at1 plain (c .knots) (c .n + 3))) q ∙ one-more pairs room₀ at (at1 plain (c .knots) (c .n + 3)) nan (sym e) h
 
--- the count stands beside an answer
-module _ {rules : List Row} {numbers : List Float} {k : ℕ} {out out′ : List Float} where
-  pub count-stays : {m : ℕ} (n : ℕ) → (m ≡ 0 → ⊥) → Answer rules numbers k out m out′ → n ≡ cond (eqb (firstOf rules) 0) (length numbers) n
-  count-stays {m} n h a = rw (sym (a .refusal), ne-eqb m 0 h)
+-- what a walk leaves in its room, of a curve
+module _ (n : ℕ) (us : List Float) (per : ℕ) (few : n ≤ 66) (small : per ≤ 16) (room : List Float) {k : ℕ} {room′ : List Float} (e : walked k room′ ≡ walkOf n us per room) where
+  abbrev samples : List Float
+  samples = samplesOf (record { n = n; xs = []; ys = []; knots = us }) per
 
-  pub count-given : {m n′ : ℕ} (n : ℕ) → m ≡ 0 → Answer rules numbers k out m out′ → n′ ≡ length numbers → n′ ≡ cond (eqb (firstOf rules) 0) (length numbers) n
-  count-given {m} n h a e = rw (sym (a .refusal), h) e
+  made : walked k room′ ≡ walked (length samples) (samples ++ drop (length samples) room)
+  unfolding walkOf
+  made = e ∙ rw (le-leb n 66 few, le-leb per 16 small)
+
+  pub walk-count : k ≡ length (samplesOf (record { n = n; xs = []; ys = []; knots = us }) per)
+  walk-count = ap (λ (w : Walked). w .count) made
+
+  pub walk-room : room′ ≡ samplesOf (record { n = n; xs = []; ys = []; knots = us }) per ++ drop (length (samplesOf (record { n = n; xs = []; ys = []; knots = us }) per)) room
+  walk-room = ap (λ (w : Walked). w .room) made
+
+-- the count stands beside an outcome
+module _ {r : Refusal} {out′ : List Float} {o : Outcome} (e : outcome r out′ ≡ o) (k n : ℕ) where
+  pub count-stays : (r .number ≡ 0 → ⊥) → counted r out′ n ≡ counting o k n
+  count-stays h = subst (λ (x : Outcome). counted r out′ n ≡ counting x k n) e (rw (ne-eqb (r .number) 0 h))
+
+  pub count-given : r .number ≡ 0 → {n′ : ℕ} → n′ ≡ k → counted r out′ n′ ≡ counting o k n
+  count-given z {n′} q = subst (λ (x : Outcome). counted r out′ n′ ≡ counting x k n) e (ap (counted r out′) (q ∙ sym (ap (λ (b : Bool). cond b k n) (eq-eqb (r .number) 0 z))))

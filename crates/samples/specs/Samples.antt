@@ -1,19 +1,20 @@
--- Parameters spread over the domain. Document 01, "Samples", decides.
-use mathlib.Core.Path.{_≡_}
+-- Parameters spread over the domain. docs/RULES.md, "Samples", decides.
 use mathlib.Core.Bool.{cond}
 use mathlib.Core.List.{List, [], _∷_, _++_}
 use Prim.Native.Nat.{ℕ, _+_}
 use lib.ListN.{length}
-use lib.Dec.{ltb, eqb}
+use lib.Dec.{ltb}
 use lib.IntN.{pos}
 use lib.Ieee.{Float, binary64, add, sub, mul, div, lt, ofInt}
 use Rattle.meaning.specs.Scalar.{plain}
 use Rattle.meaning.specs.Table.{at1}
 use Rattle.meaning.specs.Loops.{run}
-use Rattle.meaning.specs.Refusals.{Row, row, firstOf}
+use Rattle.refusal.specs.declared.Refusal.{Refusal}
+use Rattle.refusal.specs.Refusals.{row, isNone}
 use Rattle.meaning.specs.Search.{listed}
-use Rattle.evaluate.specs.Point.{Shape}
-use Rattle.answer.specs.Answer.{deliveryRules, Answer}
+use Rattle.shape.specs.Shape.{Shape}
+use Rattle.shape.specs.Offered.{Offered}
+use Rattle.outcome.specs.Outcome.{deliveryRules, Outcome, answering}
 
 -- sample s of `per` between w0 and w1: w0 + (w1 - w0) * s / per, multiplied before divided
 abbrev pub sampleAt : Float → Float → ℕ → ℕ → Float
@@ -31,10 +32,20 @@ pairSamples ks per i = risingSamples (at1 plain ks i) (at1 plain ks (i + 1)) per
 unfoldable pub samplesOf : Shape Float → ℕ → List Float
 samplesOf c per = run 0 (c .n + 3) (λ i l. l ++ pairSamples (c .knots) per i) [] ++ (at1 plain (c .knots) (c .n + 3) ∷ [])
 
-unfoldable pub sampleRules : Shape Float → ℕ → List Float → List Row
-sampleRules c per out = row 13 (ltb 16 per) ∷ deliveryRules (samplesOf c per) (length (samplesOf c per)) out
+-- an outcome, and beside its slice a lent number: how many numbers were written, or what it was
+pub record Counted : Type 0 where
+  pub refusal : Refusal
+  pub out : List Float
+  pub count : ℕ
 
--- the numbers go into a slice, and how many there are into a number that is lent beside it
-pub record AnswerCounted (rules : List Row) (numbers : List Float) (out : List Float) (n : ℕ) (number : ℕ) (out′ : List Float) (n′ : ℕ) : Type 0 where
-  pub answer : Answer rules numbers (length numbers) out number out′
-  pub counted : n′ ≡ cond (eqb (firstOf rules) 0) (length numbers) n
+abbrev pub counted : Refusal → List Float → ℕ → Counted
+counted r out n = record { refusal = r; out = out; count = n }
+
+abbrev pub counting : Outcome → ℕ → ℕ → Counted
+counting o k n = counted (o .refusal) (o .out) (cond (isNone (o .refusal)) k n)
+
+unfoldable pub samplesAnswer : Offered → ℕ → List Float → ℕ → Counted
+samplesAnswer who per out n =
+    let numbers = samplesOf (who .shape) per in
+    let rules = who .rules ++ (row 13 (ltb 16 per) ∷ deliveryRules numbers (length numbers) out) in
+    counting (answering rules numbers (length numbers) out) (length numbers) n

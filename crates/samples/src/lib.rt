@@ -1,6 +1,5 @@
-// Parameters spread over the domain of a curve. Each door checks its curve again.
+// Parameters spread over the domain of a curve. A curve is checked again, whoever made it.
 ghost use mathlib.Core.Path.{_≡_};
-ghost use mathlib.Core.Bool.{true};
 ghost use mathlib.Core.List.{[], _++_};
 ghost use Prim.Native.Nat.{_+_, _*_, _/_, _≤_};
 ghost use lib.ListN.{length, take, drop};
@@ -8,11 +7,13 @@ ghost use lib.Seq.{paste};
 ghost use Rattle.meaning.specs.Loops.{run};
 ghost use Rattle.meaning.specs.Search.{listed};
 ghost use Rattle.knots.proofs.Accepted.{Accepted};
-ghost use Rattle.curve.specs.Record.{shapeOf, recordRules};
-ghost use Rattle.samples.specs.Samples.{sampleAt, risingSamples, pairSamples, samplesOf, sampleRules, AnswerCounted};
-ghost use Rattle.curve.specs.Build.{sliceShape, sliceRules};
+ghost use Rattle.shape.specs.Offered.{inSlices};
+ghost use Rattle.shape.specs.Trusting.{trusting};
+ghost use Rattle.curve.specs.Record.{byRecord};
+ghost use Rattle.samples.specs.Walk.{walked, walkOf};
+ghost use Rattle.samples.specs.Samples.{sampleAt, risingSamples, pairSamples, counted, samplesAnswer};
 use curve::Curve;
-use knots::Refusal;
+use refusal::Refusal;
 
 // Puts per samples between w0 and w1 into room from index at on.
 fn sample_pair(room: &mut [f64], at: usize, w0: f64, w1: f64, per: usize)
@@ -49,39 +50,57 @@ fn sample_pairs<'a>(u: &'a [f64; 70], n: usize, per: usize, room: &mut [f64]) ->
     at
 }
 
-// The samples of the domain, and how many there are.
-fn answer_samples(c: Curve, per: usize, out: &mut [f64], count: &mut u64) -> Refusal
-    requires { ⌜ Accepted (take (c .points + 4) (c .knots)) (c .points) ⌝ }
-    ensures { λ r. ⌜ AnswerCounted (sampleRules (shapeOf c) per (now (out .entry))) (samplesOf (shapeOf c) per) (now (out .entry)) (now (count .entry)) (r .number) (now (out .exit)) (now (count .exit)) ⌝ }
+// Puts the samples of a curve with n control points into room, those of each rising pair and then the domain's end, and answers how many there are;
+// none where no curve has so many control points, or where per is above 16.
+// Corresponds to spline.rs: Curve::samples.
+pub fn walk<'a>(n: usize, u: &'a [f64; 70], per: usize, room: &mut [f64; 1105]) -> usize
+    ensures { λ r. ⌜ walked r (now (room .exit)) ≡ walkOf n (now (u .entry)) per (now (room .entry)) ⌝ ∗ ⌜ r ≤ 1105 ⌝ }
+{
+    if n > 66 {
+        return 0;
+    }
+    if per > 16 {
+        return 0;
+    }
+    let at = sample_pairs(u, n, per, room);
+    room[at] = u[n + 3];
+    at + 1
+}
+
+// The samples of the domain, and how many there are: the control points do not matter.
+fn answer_samples<'a>(
+    n: usize,
+    u: &'a [f64; 70],
+    per: usize,
+    out: &mut [f64],
+    count: &mut u64,
+) -> Refusal
+    requires { ⌜ Accepted (take (n + 4) (now u)) n ⌝ }
+    ensures { λ r. ⌜ counted r (now (out .exit)) (now (count .exit))
+        ≡ samplesAnswer (trusting n [] [] (now (u .entry))) per (now (out .entry)) (now (count .entry)) ⌝ }
 {
     if per > 16 {
-        return Refusal { number: 13 };
+        return refusal::by(13);
     }
-    let n = c.points;
-    let u = c.knots;
     let mut room = [0.0; 1105];
-    let at = sample_pairs(&u, n, per, &mut room);
-    room[at] = u[n + 3];
-    let k = at + 1;
-    let r = answer::deliver(&room, k, out);
+    let k = walk(n, u, per, &mut room);
+    let r = outcome::deliver(&room, k, out);
     if r.number == 0 {
         *count = k as u64;
     }
     r
 }
 
-// ---- the doors: a curve is checked again, whoever made it
-
 // per parameters from the start of each rising knot pair on, then the domain's end, and their count.
-// Corresponds to 000 Curve::samples.
+// Corresponds to spline.rs: Curve::samples.
 pub fn samples(c: Curve, per: usize, out: &mut [f64], count: &mut u64) -> Refusal
-    ensures { λ r. ⌜ AnswerCounted (recordRules c ++ sampleRules (shapeOf c) per (now (out .entry))) (samplesOf (shapeOf c) per) (now (out .entry)) (now (count .entry)) (r .number) (now (out .exit)) (now (count .exit)) ⌝ }
+    ensures { λ r. ⌜ counted r (now (out .exit)) (now (count .exit)) ≡ samplesAnswer (byRecord c) per (now (out .entry)) (now (count .entry)) ⌝ }
 {
-    let r = curve::recheck(c);
+    let r = shape::check(c.points, c.knot_count, &c.xs, &c.ys, &c.knots);
     if r.number != 0 {
         return r;
     }
-    answer_samples(c, per, out, count)
+    answer_samples(c.points, &c.knots, per, out, count)
 }
 
 // The same for a curve in slices: control points x, y in turn, and knots.
@@ -92,11 +111,12 @@ pub fn samples_slices(
     out: &mut [f64],
     count: &mut u64,
 ) -> Refusal
-    ensures { λ r. ⌜ AnswerCounted (sliceRules (now (coords .entry)) true (now (knots .entry)) ++ sampleRules (sliceShape (now (coords .entry)) (now (knots .entry))) per (now (out .entry))) (samplesOf (sliceShape (now (coords .entry)) (now (knots .entry))) per) (now (out .entry)) (now (count .entry)) (r .number) (now (out .exit)) (now (count .exit)) ⌝ }
+    ensures { λ r. ⌜ counted r (now (out .exit)) (now (count .exit)) ≡ samplesAnswer (inSlices (now (coords .entry)) (now (knots .entry))) per (now (out .entry)) (now (count .entry)) ⌝ }
 {
     let b = curve::assemble(coords, true, knots);
     if b.refusal.number != 0 {
         return b.refusal;
     }
-    answer_samples(b.curve, per, out, count)
+    let made = b.curve;
+    answer_samples(made.points, &made.knots, per, out, count)
 }

@@ -1,7 +1,7 @@
 -- Every text that `Written` gives has the form and says what was written, which is the converse of `Canonical`: so the texts that have the form are the written
 -- ones, one for each content within the limits (`accepted`, `read-back`, `exactly`, `one-content`). Assumes nothing.
 use mathlib.Core.Path.{_≡_, refl, sym, ap, _∙_, subst}
-use mathlib.Core.Bool.{Bool, true, false, _||_, cond}
+use mathlib.Core.Bool.{true, false}
 use mathlib.Core.List.{List, [], _++_, map, append-assoc, append-nil}
 use mathlib.Core.Logic.{_↔_}
 use Prim.Native.Nat.{ℕ, zero, suc, _+_, _*_, _^_, _≤_, _<_}
@@ -18,10 +18,12 @@ use Rattle.meaning.specs.Search.{listed}
 use Rattle.meaning.proofs.Tests.{refuted}
 use Rattle.meaning.proofs.Every.{all, each}
 use Rattle.meaning.proofs.Filling.{length-listed, nth-listed, map-listed}
+use Rattle.knots.specs.declared.Form.{Form}
+use Rattle.knots.specs.declared.Form.the-variants.{Control, Fit}
 use Rattle.sheet_read.specs.Text.{text, byteAt, wordStands}
 use Rattle.sheet_read.specs.Number.{numberAt, doubleStands}
-use Rattle.sheet_read.specs.Grammar.{byteAfter, numberPlace, numbersStand, numbersAt, sectionAt, sheetOf}
-use Rattle.sheet_read.specs.Written.{digitsText, countText, numbersText, sectionText, sheetText}
+use Rattle.sheet_read.specs.Grammar.{byteAfter, numberPlace, numbersStand, numbersAt, sectionAt, formText, formOf, sheetOf}
+use Rattle.sheet_read.specs.Written.{digitsText, countText, numbersText, sectionText, formedText}
 use Rattle.sheet_read.specs.Content.{Lines, Content, Fits, Within, bitsOf, written, bitsAt, linesAt, saidBy, said}
 use Rattle.sheet_read.specs.declared.Section.{Section}
 use Rattle.sheet_read.specs.declared.Sheet.{Sheet}
@@ -89,25 +91,17 @@ module _ (s w u : List ℕ) (most per at : ℕ) (x : Lines) (h : Fits most per x
 
 -- ---- the sheet
 
--- the first line, and after it u is left
-record Form (s u : List ℕ) (fit : Bool) : Type 0 where
-  pub is : fit ≡ wordStands s (text "fit\n") 0
-  pub known : (fit || wordStands s (text "control\n") 0) ≡ true
-  pub after : From s (cond fit 4 8) u
+module _ (s u : List ℕ) where
+  -- a word does not stand where one does that has another byte at i
+  apart : (v w : List ℕ) (i : ℕ) → i < length v → i < length w → (byteAt v i ≡ byteAt w i → ⊥) → From s 0 (v ++ u) → wordStands s w 0 ≡ false
+  unfolding wordStands
+  apart v w i l m d f =
+      refuted _ (λ h. d (sym (shown v u f i l) ∙ eqb-true (byteAt s (0 + i)) (byteAt w i) (each (length w) (λ k. eqb (byteAt s (0 + k)) (byteAt w k)) h i m)))
 
-not-fit : (s u : List ℕ) → From s 0 (text "control\n" ++ u) → wordStands s (text "fit\n") 0 ≡ false
-unfolding wordStands
-not-fit s u f =
-    refuted _ (λ h.
-    omega (
-      arith,
-      shown (text "control\n") u f 0 (omega arith),
-      eqb-true (byteAt s (0 + 0)) 102 (each 4 (λ i. eqb (byteAt s (0 + i)) (byteAt (text "fit\n") i)) h 0 (omega arith)),
-    ))
-
-form-read : (s u : List ℕ) (fit : Bool) → From s 0 (cond fit (text "fit\n") (text "control\n") ++ u) → Form s u fit
-form-read s u true f = record { is = sym (word-found (text "fit\n") u f); known = refl; after = past (text "fit\n") u f }
-form-read s u false f = record { is = sym (not-fit s u f); known = word-found (text "control\n") u f; after = past (text "control\n") u f }
+  -- the first line says its form, and no other
+  form-is : (form : Form) → From s 0 (formText form ++ u) → form ≡ formOf s
+  form-is Control f = rw (apart (formText Control) (formText Fit) 0 (omega arith) (omega arith) (λ e. omega arith) f)
+  form-is Fit f = rw (word-found (formText Fit) u f)
 
 module _ (c : Content) (h : Within c) (s : List ℕ) (e : s ≡ written c) where
   abbrev pointsText : List ℕ
@@ -119,24 +113,27 @@ module _ (c : Content) (h : Within c) (s : List ℕ) (e : s ≡ written c) where
   abbrev atText : List ℕ
   atText = sectionText (text "at ") 1 (bitsOf (c .parameters)) (c .parameters .count)
 
-  from-form : From s 0 (cond (c .fit) (text "fit\n") (text "control\n") ++ (pointsText ++ (knotsText ++ atText)))
+  from-form : From s 0 (formText (c .form) ++ (pointsText ++ (knotsText ++ atText)))
   unfolding written
   from-form = record { rest = e; long = zero-add _ ∙ ap length (sym e) }
 
   sheet-read : (sheetOf s .formed ≡ true) × (said s ≡ c)
   unfolding said
   sheet-read =
-      let form = form-read s (pointsText ++ (knotsText ++ atText)) (c .fit) from-form in
-      let points = sectionAt s (text "points ") 66 2 (cond (c .fit) 4 8) in
+      let first = formText (c .form) in
+      let lines = pointsText ++ (knotsText ++ atText) in
+      let points = sectionAt s (text "points ") 66 2 (length first) in
       let knots = sectionAt s (text "knots ") 70 1 (points .next) in
       let parameters = sectionAt s (text "at ") 1024 1 (knots .next) in
-      let p = section-read s (text "points ") (knotsText ++ atText) 66 2 (cond (c .fit) 4 8) (c .points) (h .points) (form .after) (omega arith) in
+      let after = rw zero-add at (past first lines from-form) in
+      let p = section-read s (text "points ") (knotsText ++ atText) 66 2 (length first) (c .points) (h .points) after (omega arith) in
       let k = section-read s (text "knots ") atText 70 1 (points .next) (c .knots) (h .knots) (p .after) (omega arith) in
       let a = section-read s (text "at ") [] 1024 1 (knots .next) (c .parameters) (h .parameters) (rw (append-nil atText) (k .after)) (omega arith) in
       let ends = eq-eqb (parameters .next) (length s) (sym (add-zero (parameters .next)) ∙ a .after .long) in
       subst (λ (x : Sheet). (x .formed ≡ true) × (saidBy s x ≡ c))
-      (assembled s {form = true} {formed = true} (form .is) (sym (form .known)) refl refl refl refl (rw (p .formed, k .formed, a .formed, ends)))
-      (refl, λ i. record { fit = c .fit; points = p .says i; knots = k .says i; parameters = a .says i })
+      (assembled s {stands = true} {formed = true} (form-is s lines (c .form) from-form) (sym (word-found first lines from-form)) refl refl refl refl
+      (rw (p .formed, k .formed, a .formed, ends)))
+      (refl, λ i. record { form = c .form; points = p .says i; knots = k .says i; parameters = a .says i })
 
 -- ---- a text that has the form, written again
 
@@ -178,7 +175,7 @@ module _ (s : List ℕ) (per : ℕ) (r : Section) where
   section-again w = same-section per listedBits (bitsAt s (r .start)) w (r .count) listed-bits
 
 written-again : (s : List ℕ) (x : Sheet) → written (saidBy s x)
-    ≡ sheetText (x .fit) (bitsAt s (x .points .start)) (x .points .count) (bitsAt s (x .knots .start)) (x .knots .count) (bitsAt s (x .parameters .start)) (x .parameters .count)
+    ≡ formedText (x .form) (bitsAt s (x .points .start)) (x .points .count) (bitsAt s (x .knots .start)) (x .knots .count) (bitsAt s (x .parameters .start)) (x .parameters .count)
 unfolding written
 written-again s x =
     rw (section-again s 2 (x .points) (text "points "), section-again s 1 (x .knots) (text "knots "), section-again s 1 (x .parameters) (text "at "))

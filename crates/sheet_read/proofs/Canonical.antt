@@ -15,10 +15,12 @@ use Rattle.meaning.specs.Loops.{turns}
 use Rattle.meaning.proofs.Tests.{no, by-two, and-left, and-right}
 use Rattle.meaning.proofs.Searching.{seek-first}
 use Rattle.meaning.specs.Search.{every}
+use Rattle.knots.specs.declared.Form.{Form}
+use Rattle.knots.specs.declared.Form.the-variants.{Control, Fit}
 use Rattle.sheet_read.specs.Text.{text, byteAt, wordStands}
 use Rattle.sheet_read.specs.Number.{isDecimal, isLetter, isHex, digitOf, glyph, numberAt, digitsAt, countAt, countStands, doubleStands}
-use Rattle.sheet_read.specs.Grammar.{byteAfter, numberPlace, numbersStand, noSection, sectionAt, sheetOf}
-use Rattle.sheet_read.specs.Written.{digitsText, countText, numbersText, sectionText, sheetText}
+use Rattle.sheet_read.specs.Grammar.{byteAfter, numberPlace, numbersStand, noSection, sectionAt, formText, formStands, formOf, sheetOf}
+use Rattle.sheet_read.specs.Written.{digitsText, countText, numbersText, sectionText, formedText}
 use Rattle.sheet_read.specs.Content.{bitsAt}
 use Rattle.meaning.proofs.Every.{each}
 use Rattle.sheet_read.specs.declared.Section.{Section}
@@ -238,10 +240,9 @@ module _ (s : List ℕ) where
 
   -- ---- the sheet
 
-  form-stands : (fit other : Bool) → fit ≡ wordStands s (text "fit\n") 0 → other ≡ wordStands s (text "control\n") 0 → (fit || other) ≡ true
-      → Stands s 0 (cond fit (text "fit\n") (text "control\n")) (cond fit 4 8)
-  form-stands true other e g h = word-stands s (text "fit\n") 0 refl (sym e)
-  form-stands false other e g h = word-stands s (text "control\n") 0 refl (sym g ∙ h)
+  form-stands : (form : Form) → formStands s form ≡ true → Stands s 0 (formText form) (length (formText form))
+  form-stands Control h = word-stands s (formText Control) 0 refl h
+  form-stands Fit h = word-stands s (formText Fit) 0 refl h
 
   -- all of the text
   ended : (t : List ℕ) (b : ℕ) → Stands s 0 t b → b ≡ length s → s ≡ t
@@ -249,21 +250,21 @@ module _ (s : List ℕ) where
 
   pub canonical : sheetOf s .formed ≡ true
       → s
-      ≡ sheetText (sheetOf s .fit) (bitsAt s (sheetOf s .points .start)) (sheetOf s .points .count) (bitsAt s (sheetOf s .knots .start)) (sheetOf s .knots .count)
+      ≡ formedText (sheetOf s .form) (bitsAt s (sheetOf s .points .start)) (sheetOf s .points .count) (bitsAt s (sheetOf s .knots .start)) (sheetOf s .knots .count)
       (bitsAt s (sheetOf s .parameters .start)) (sheetOf s .parameters .count)
-  unfolding sheetOf sheetText
+  unfolding sheetOf formedText
   canonical h =
-      let fit = wordStands s (text "fit\n") 0 in
-      let other = wordStands s (text "control\n") 0 in
-      let p = sectionAt s (text "points ") 66 2 (cond fit 4 8) in
+      let form = formOf s in
+      let first = length (formText form) in
+      let p = sectionAt s (text "points ") 66 2 first in
       let k = sectionAt s (text "knots ") 70 1 (p .next) in
       let a = sectionAt s (text "at ") 1024 1 (k .next) in
-      let f1 = and-right (fit || other) _ h in
+      let f1 = and-right (formStands s form) _ h in
       let f2 = and-right (p .formed) _ f1 in
       let f3 = and-right (k .formed) _ f2 in
       ended _ (a .next)
-      (joined (form-stands fit other refl refl (and-left (fit || other) _ h))
-      (joined (section-stands (text "points ") 66 2 (cond fit 4 8) refl (and-left (p .formed) _ f1))
+      (joined (form-stands form (and-left (formStands s form) _ h))
+      (joined (section-stands (text "points ") 66 2 first refl (and-left (p .formed) _ f1))
       (joined (section-stands (text "knots ") 70 1 (p .next) refl (and-left (k .formed) _ f2))
       (section-stands (text "at ") 1024 1 (k .next) refl (and-left (a .formed) _ f3)))))
       (eqb-true (a .next) (length s) (and-right (a .formed) _ f3))

@@ -1,6 +1,6 @@
 -- No text that has the form is longer than 20,877 bytes. Assumes nothing.
 use mathlib.Core.Path.{_≡_, refl, subst}
-use mathlib.Core.Bool.{true, _||_, cond}
+use mathlib.Core.Bool.{true}
 use mathlib.Core.List.{List}
 use Prim.Native.Nat.{ℕ, _+_, _*_, _≤_, _<_}
 use native.Mathlib.Nat.{add-zero}
@@ -12,7 +12,7 @@ use Rattle.meaning.specs.Loops.{turns}
 use Rattle.meaning.proofs.Tests.{by-two, and-right}
 use Rattle.sheet_read.specs.Text.{text, byteAt, wordStands}
 use Rattle.sheet_read.specs.Number.{digitOf, numberAt, digitsAt, countAt, countStands}
-use Rattle.sheet_read.specs.Grammar.{numbersStand, sectionAt, sheetOf}
+use Rattle.sheet_read.specs.Grammar.{numbersStand, sectionAt, formText, formStands, formOf, sheetOf}
 use Rattle.sheet_read.specs.declared.Section.{Section}
 use Rattle.sheet_read.proofs.Numerals.{few-digits, counted, first-digit, at-least-one, no-zero}
 use Rattle.sheet_read.proofs.Sections.{no-word, no-count, no-numbers, whole, few-numbers, first-line}
@@ -66,14 +66,15 @@ module _ (s w : List ℕ) (most per at k : ℕ) (few : countStands s most (at + 
 pub longest : (s : List ℕ) → sheetOf s .formed ≡ true → length s ≤ 20877
 unfolding sheetOf
 longest s h =
-    let fit = wordStands s (text "fit\n") 0 in
-    let p = sectionAt s (text "points ") 66 2 (cond fit 4 8) in
+    let form = formOf s in
+    let first = length (formText form) in
+    let p = sectionAt s (text "points ") 66 2 first in
     let k = sectionAt s (text "knots ") 70 1 (p .next) in
     let a = sectionAt s (text "at ") 1024 1 (k .next) in
     let e : a .next ≡ length s =
     eqb-true (a .next) (length s)
-    (and-right (a .formed) _ (and-right (k .formed) _ (and-right (p .formed) _ (and-right (fit || wordStands s (text "control\n") 0) _ h)))) in
-    let p-end = section-end s (text "points ") 66 2 (cond fit 4 8) 2 (λ g. two-digits s (cond fit 4 8 + 7) 66 g (omega arith)) in
+    (and-right (a .formed) _ (and-right (k .formed) _ (and-right (p .formed) _ (and-right (formStands s form) _ h)))) in
+    let p-end = section-end s (text "points ") 66 2 first 2 (λ g. two-digits s (first + 7) 66 g (omega arith)) in
     let k-end = section-end s (text "knots ") 70 1 (p .next) 2 (λ g. two-digits s (p .next + 6) 70 g (omega arith)) in
     let a-end = section-end s (text "at ") 1024 1 (k .next) 4 (λ g. few-digits s (k .next + 3)) in
-    omega (arith, first-line fit)
+    omega (arith, first-line form)

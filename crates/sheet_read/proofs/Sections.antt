@@ -1,6 +1,6 @@
 -- The tests of a section, one after the other, and how far it reaches. Assumes nothing.
 use mathlib.Core.Path.{_≡_, refl, subst}
-use mathlib.Core.Bool.{Bool, true, false, _&&_, _||_, cond}
+use mathlib.Core.Bool.{Bool, true, false, _&&_}
 use mathlib.Core.List.{List}
 use Prim.Native.Nat.{ℕ, _+_, _*_, _≤_}
 use native.Mathlib.Nat.{mul-le-mul-left, le-trans}
@@ -8,9 +8,11 @@ use native.Mathlib.Omega.{arith}
 use lib.ListN.{length}
 use lib.Dec.{eqb}
 use Rattle.meaning.proofs.Tests.{by-two}
+use Rattle.knots.specs.declared.Form.{Form}
+use Rattle.knots.specs.declared.Form.the-variants.{Control, Fit}
 use Rattle.sheet_read.specs.Text.{text, wordStands}
 use Rattle.sheet_read.specs.Number.{numberAt, digitsAt, countAt, countStands}
-use Rattle.sheet_read.specs.Grammar.{numbersStand, noSection, sectionAt, sheetOf}
+use Rattle.sheet_read.specs.Grammar.{numbersStand, noSection, sectionAt, formText, formStands, formOf, sheetOf}
 use Rattle.sheet_read.specs.declared.Section.{Section}
 use Rattle.sheet_read.specs.declared.Sheet.{Sheet}
 use Rattle.sheet_read.proofs.Numerals.{counted, few-digits}
@@ -68,30 +70,29 @@ module _ (s w : List ℕ) (most per at : ℕ) where
 
 -- ---- the sheet, section after section
 
-pub first-line : (fit : Bool) → cond fit 4 8 ≤ 8
-first-line true = omega arith
-first-line false = omega arith
+pub first-line : (form : Form) → length (formText form) ≤ 8
+first-line Control = omega arith
+first-line Fit = omega arith
 
--- over any three readers of a section, whether the words of the two forms stand there, and any end
-chained : (P K A : ℕ → Section) (end : ℕ) (w v : Bool) {fit form formed : Bool} {at : ℕ} {points knots parameters : Section}
-    → fit ≡ w → form ≡ (fit || v) → at ≡ cond fit 4 8 → points ≡ P at → knots ≡ K (points .next) → parameters ≡ A (knots .next)
-    → formed ≡ (form && (points .formed && (knots .formed && (parameters .formed && eqb (parameters .next) end))))
-    → _≡_ {A = Sheet} (record { formed = formed; fit = fit; points = points; knots = knots; parameters = parameters })
-    (let p = P (cond w 4 8) in
+-- over any reader of the first line and of each section, and any end
+chained : (S : Form → Bool) (P K A : ℕ → Section) (end : ℕ) (w : Form) {form : Form} {stands formed : Bool} {at : ℕ} {points knots parameters : Section}
+    → form ≡ w → stands ≡ S form → at ≡ length (formText form) → points ≡ P at → knots ≡ K (points .next) → parameters ≡ A (knots .next)
+    → formed ≡ (stands && (points .formed && (knots .formed && (parameters .formed && eqb (parameters .next) end))))
+    → _≡_ {A = Sheet} (record { formed = formed; form = form; points = points; knots = knots; parameters = parameters })
+    (let p = P (length (formText w)) in
     let k = K (p .next) in
     let a = A (k .next) in
-    record { formed = (w || v) && (p .formed && (k .formed && (a .formed && eqb (a .next) end))); fit = w; points = p; knots = k; parameters = a })
-chained P K A end w v e g a p k q f = rw (f, g, q, k, p, a, e)
+    record { formed = S w && (p .formed && (k .formed && (a .formed && eqb (a .next) end))); form = w; points = p; knots = k; parameters = a })
+chained S P K A end w e g a p k q f = rw (f, g, q, k, p, a, e)
 
-pub assembled : (s : List ℕ) {fit form formed : Bool} {at : ℕ} {points knots parameters : Section}
-    → fit ≡ wordStands s (text "fit\n") 0 → form ≡ (fit || wordStands s (text "control\n") 0) → at ≡ cond fit 4 8
+pub assembled : (s : List ℕ) {form : Form} {stands formed : Bool} {at : ℕ} {points knots parameters : Section}
+    → form ≡ formOf s → stands ≡ formStands s form → at ≡ length (formText form)
     → points ≡ sectionAt s (text "points ") 66 2 at → knots ≡ sectionAt s (text "knots ") 70 1 (points .next) → parameters ≡ sectionAt s (text "at ") 1024 1 (knots .next)
-    → formed ≡ (form && (points .formed && (knots .formed && (parameters .formed && eqb (parameters .next) (length s)))))
-    → _≡_ {A = Sheet} (record { formed = formed; fit = fit; points = points; knots = knots; parameters = parameters }) (sheetOf s)
+    → formed ≡ (stands && (points .formed && (knots .formed && (parameters .formed && eqb (parameters .next) (length s)))))
+    → _≡_ {A = Sheet} (record { formed = formed; form = form; points = points; knots = knots; parameters = parameters }) (sheetOf s)
 unfolding sheetOf
 assembled s =
-    chained (sectionAt s (text "points ") 66 2) (sectionAt s (text "knots ") 70 1) (sectionAt s (text "at ") 1024 1) (length s) (wordStands s (text "fit\n") 0)
-    (wordStands s (text "control\n") 0)
+    chained (formStands s) (sectionAt s (text "points ") 66 2) (sectionAt s (text "knots ") 70 1) (sectionAt s (text "at ") 1024 1) (length s) (formOf s)
 
 -- ---- the limits of every sheet
 
@@ -103,9 +104,10 @@ pub record Limits (x : Sheet) : Type 0 where
 pub limits : (s : List ℕ) → Limits (sheetOf s)
 unfolding sheetOf
 limits s =
-    let f = first-line (wordStands s (text "fit\n") 0) in
-    let p = reach s (text "points ") 66 2 (cond (wordStands s (text "fit\n") 0) 4 8) in
-    let k = reach s (text "knots ") 70 1 (sectionAt s (text "points ") 66 2 (cond (wordStands s (text "fit\n") 0) 4 8) .next) in
+    let form = formOf s in
+    let f = first-line form in
+    let p = reach s (text "points ") 66 2 (length (formText form)) in
+    let k = reach s (text "knots ") 70 1 (sectionAt s (text "points ") 66 2 (length (formText form)) .next) in
     record {
       points = (lines s (text "points ") 66 2 _, le-trans (begin s (text "points ") 66 2 _) (omega arith));
       knots = (lines s (text "knots ") 70 1 _, le-trans (begin s (text "knots ") 70 1 _) (omega arith));

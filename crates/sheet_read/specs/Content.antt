@@ -2,13 +2,13 @@
 -- have the form are those of a content within the limits, one for each.
 use Prim.Native.Nat.{ℕ, _*_, _^_, _≤_, _<_}
 use mathlib.Core.Path.{_≡_}
-use mathlib.Core.Bool.{Bool}
 use mathlib.Core.List.{List}
 use lib.ListN.{length, getD}
 use Rattle.meaning.specs.Search.{listed}
+use Rattle.knots.specs.declared.Form.{Form}
 use Rattle.sheet_read.specs.Number.{numberAt}
 use Rattle.sheet_read.specs.Grammar.{numberPlace, sheetOf}
-use Rattle.sheet_read.specs.Written.{sheetText}
+use Rattle.sheet_read.specs.Written.{formedText}
 use Rattle.sheet_read.specs.declared.Section.{Section}
 use Rattle.sheet_read.specs.declared.Sheet.{Sheet}
 
@@ -21,7 +21,7 @@ pub record Lines : Type 0 where
 
 -- the form, the points, the knots and the parameters
 pub record Content : Type 0 where
-  pub fit : Bool
+  pub form : Form
   pub points : Lines
   pub knots : Lines
   pub parameters : Lines
@@ -41,9 +41,9 @@ abbrev pub bitsOf : Lines → ℕ → ℕ
 bitsOf x j = getD (x .bits) j 0
 
 unfoldable pub written : Content → List ℕ
-unfolding sheetText
+unfolding formedText
 written c =
-    sheetText (c .fit) (bitsOf (c .points)) (c .points .count) (bitsOf (c .knots)) (c .knots .count) (bitsOf (c .parameters)) (c .parameters .count)
+    formedText (c .form) (bitsOf (c .points)) (c .points .count) (bitsOf (c .knots)) (c .knots .count) (bitsOf (c .parameters)) (c .parameters .count)
 
 -- ---- what a text says, by its sections
 
@@ -56,7 +56,7 @@ unfolding numberAt
 linesAt s per x = record { count = x .count; bits = listed 0 (per * x .count) (bitsAt s (x .start)) }
 
 abbrev pub saidBy : List ℕ → Sheet → Content
-saidBy s x = record { fit = x .fit; points = linesAt s 2 (x .points); knots = linesAt s 1 (x .knots); parameters = linesAt s 1 (x .parameters) }
+saidBy s x = record { form = x .form; points = linesAt s 2 (x .points); knots = linesAt s 1 (x .knots); parameters = linesAt s 1 (x .parameters) }
 
 unfoldable pub said : List ℕ → Content
 said s = saidBy s (sheetOf s)

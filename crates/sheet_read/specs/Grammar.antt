@@ -1,11 +1,13 @@
--- The sheet's sections. Document 01, "The sheet program", decides: the form, then points, knots and parameters, each after its count, and nothing more.
+-- The sheet's sections. docs/RULES.md, "The sheet", decides: the form, then points, knots and parameters, each after its count, and nothing more.
 use Prim.Native.Nat.{ℕ, _+_, _-_, _*_, _%_}
-use mathlib.Core.Bool.{Bool, true, false, _&&_, _||_, cond}
+use mathlib.Core.Bool.{Bool, true, false, _&&_, cond}
 use mathlib.Core.List.{List}
 use lib.ListN.{length}
 use lib.Dec.{eqb}
 use lib.Ieee.{Float}
 use Rattle.meaning.specs.Search.{listed, every}
+use Rattle.knots.specs.declared.Form.{Form}
+use Rattle.knots.specs.declared.Form.the-variants.{Control, Fit}
 use Rattle.sheet_read.specs.Text.{text, wordStands}
 use Rattle.sheet_read.specs.Number.{digitsAt, countAt, countStands, doubleStands, doubleAt}
 use Rattle.sheet_read.specs.declared.Section.{Section}
@@ -43,19 +45,31 @@ sectionAt s w most per at =
     (record { formed = true; count = n; start = start; next = numberPlace start (per * n) })
     noSection
 
+-- ---- the first line
+
+abbrev pub formText : Form → List ℕ
+formText Control = text "control\n"
+formText Fit = text "fit\n"
+
+abbrev pub formStands : List ℕ → Form → Bool
+formStands s form = wordStands s (formText form) 0
+
+-- the form that the first line says; `Control` where it says none, and then `formStands` is false of it
+abbrev pub formOf : List ℕ → Form
+formOf s = cond (formStands s Fit) Fit Control
+
 -- ---- the sheet
 
 unfoldable pub sheetOf : List ℕ → Sheet
 unfolding wordStands sectionAt
 sheetOf s =
-    let fit = wordStands s (text "fit\n") 0 in
-    let points = sectionAt s (text "points ") 66 2 (cond fit 4 8) in
+    let form = formOf s in
+    let points = sectionAt s (text "points ") 66 2 (length (formText form)) in
     let knots = sectionAt s (text "knots ") 70 1 (points .next) in
     let parameters = sectionAt s (text "at ") 1024 1 (knots .next) in
     record {
-      formed = (fit || wordStands s (text "control\n") 0)
-          && (points .formed && (knots .formed && (parameters .formed && eqb (parameters .next) (length s))));
-      fit = fit;
+      formed = formStands s form && (points .formed && (knots .formed && (parameters .formed && eqb (parameters .next) (length s))));
+      form = form;
       points = points;
       knots = knots;
       parameters = parameters;

@@ -4,3 +4,4 @@ pub mod Number
 pub mod Grammar
 pub mod Written
 pub mod Content
+pub mod Line

@@ -1,4 +1,4 @@
--- How a sheet writes a number. Document 01, "The sheet program", decides: counts are decimal without leading zeros, doubles are 16 upper-case
+-- How a sheet writes a number. docs/RULES.md, "The sheet", decides: counts are decimal without leading zeros, doubles are 16 upper-case
 -- hexadecimal digits of their bits.
 use Prim.Native.Nat.{ℕ, _+_, _-_, _*_}
 use mathlib.Core.Bool.{Bool, not, _&&_, _||_, cond}
@@ -53,9 +53,12 @@ countStands s most at =
 
 -- ---- a double
 
--- 16 digits, and after them the byte e
+-- n hexadecimal digits, and after them the byte e
+abbrev pub hexStands : List ℕ → ℕ → ℕ → ℕ → Bool
+hexStands s n e at = every n (λ i. isHex (byteAt s (at + i))) && eqb (byteAt s (at + n)) e
+
 unfoldable pub doubleStands : List ℕ → ℕ → ℕ → Bool
-doubleStands s e at = every 16 (λ i. isHex (byteAt s (at + i))) && eqb (byteAt s (at + 16)) e
+doubleStands s e at = hexStands s 16 e at
 
 unfoldable pub doubleAt : List ℕ → ℕ → Float
 unfolding numberAt ofBits

@@ -1,13 +1,14 @@
 -- The text of what a sheet says. The contracts do not need it: `proofs/Canonical.antt` shows that a text which has the form is the one written here, and
 -- `proofs/Accepted.antt` that every text written here has the form.
 use Prim.Native.Nat.{ℕ, zero, suc, _*_, _/_, _%_}
-use mathlib.Core.Bool.{Bool, cond}
+use mathlib.Core.Bool.{cond}
 use mathlib.Core.List.{List, [], _∷_, _++_}
 use lib.Dec.{ltb}
 use Rattle.meaning.specs.Loops.{run}
+use Rattle.knots.specs.declared.Form.{Form}
 use Rattle.sheet_read.specs.Text.{text}
 use Rattle.sheet_read.specs.Number.{glyph}
-use Rattle.sheet_read.specs.Grammar.{byteAfter}
+use Rattle.sheet_read.specs.Grammar.{byteAfter, formText}
 
 -- the last n digits of v in a base
 unfoldable pub digitsText : ℕ → ℕ → ℕ → List ℕ
@@ -26,7 +27,7 @@ unfoldable pub sectionText : List ℕ → ℕ → (ℕ → ℕ) → ℕ → List
 sectionText w per bits count = w ++ (countText count ++ (text "\n" ++ numbersText per bits (per * count)))
 
 -- the form, n points, k knots and m parameters
-unfoldable pub sheetText : Bool → (ℕ → ℕ) → ℕ → (ℕ → ℕ) → ℕ → (ℕ → ℕ) → ℕ → List ℕ
-sheetText fit points n knots k parameters m =
-    cond fit (text "fit\n") (text "control\n")
+unfoldable pub formedText : Form → (ℕ → ℕ) → ℕ → (ℕ → ℕ) → ℕ → (ℕ → ℕ) → ℕ → List ℕ
+formedText form points n knots k parameters m =
+    formText form
     ++ (sectionText (text "points ") 2 points n ++ (sectionText (text "knots ") 1 knots k ++ sectionText (text "at ") 1 parameters m))

@@ -1,13 +1,15 @@
 // The sheet's grammar: what stands at a place of a text, the sections, the sheet.
 ghost use mathlib.Core.Path.{_≡_};
-ghost use mathlib.Core.Bool.{not, _||_, cond};
+ghost use mathlib.Core.Bool.{not, _||_};
 ghost use Prim.Native.Nat.{_+_, _*_, _^_, _≤_, _<_};
 ghost use lib.ListN.{length};
 ghost use lib.Dec.{eqb};
 ghost use lib.Ieee.{binary64, ofBits};
 ghost use Rattle.sheet_read.specs.Text.{byteAt, wordStands};
-ghost use Rattle.sheet_read.specs.Number.{within, isHex, digitOf, numberAt, digitsAt, countStands, doubleStands, doubleAt};
-ghost use Rattle.sheet_read.specs.Grammar.{byteAfter, numbersStand, noSection, sectionAt, sheetOf};
+ghost use Rattle.sheet_read.specs.Number.{within, isHex, digitOf, numberAt, digitsAt, countStands, hexStands, doubleAt};
+ghost use Rattle.sheet_read.specs.Grammar.{byteAfter, numbersStand, noSection, sectionAt, formText, formStands, formOf, sheetOf};
+ghost use Rattle.sheet_read.specs.Line.{noLine, lineOf};
+use knots::Form;
 
 // ---- bytes and words
 
@@ -122,17 +124,17 @@ fn has_count(s: &[u8], most: usize, at: usize) -> bool
     byte(s, at + d) == 10
 }
 
-// Whether 16 hexadecimal digits and the byte e stand at `at`.
-fn has_double(s: &[u8], e: u8, at: usize) -> bool
-    requires { ⌜ at ≤ 40000 ⌝ }
-    ensures { λ r. ⌜ r ≡ doubleStands (now (s .entry)) e at ⌝ }
+// Whether n hexadecimal digits and the byte e stand at `at`.
+fn has_hex(s: &[u8], n: usize, e: u8, at: usize) -> bool
+    requires { ⌜ n ≤ 16 ⌝ ∗ ⌜ at ≤ 40000 ⌝ }
+    ensures { λ r. ⌜ r ≡ hexStands (now (s .entry)) n e at ⌝ }
 {
-    for i in 0..16 {
+    for i in 0..n {
         if !is_hex(byte(s, at + i)) {
             return false;
         }
     }
-    byte(s, at + 16) == e
+    byte(s, at + n) == e
 }
 
 // The byte that stands after number j, where `per` numbers make a line.
@@ -152,7 +154,7 @@ fn has_numbers(s: &[u8], per: usize, n: usize, start: usize) -> bool
     ensures { λ r. ⌜ r ≡ numbersStand (now (s .entry)) per n start ⌝ }
 {
     for j in 0..n {
-        if !has_double(s, after_number(per, j), start + 17 * j) {
+        if !has_hex(s, 16, after_number(per, j), start + 17 * j) {
             return false;
         }
     }
@@ -210,39 +212,61 @@ fn read_section(s: &[u8], w: &[u8], most: usize, per: usize, at: usize) -> Secti
 
 // ---- the sheet
 
-// A sheet: whether it has the form, whether its points are fit points, and its sections.
+// A sheet: whether it has the form, what its points are, and its sections.
 pub struct Sheet {
     pub formed: bool,
-    pub fit: bool,
+    pub form: Form,
     pub points: Section,
     pub knots: Section,
     pub parameters: Section,
 }
 
-// How long the first line is, `fit` or `control`.
-fn form_line(fit: bool) -> usize
-    ensures { λ r. ⌜ r ≡ cond fit 4 8 ⌝ }
+// How long the first line of a form is.
+fn form_line(form: Form) -> usize
+    ensures { λ r. ⌜ r ≡ length (formText form) ⌝ }
 {
-    if fit { 4 } else { 8 }
+    match form {
+        Form::Control => 8,
+        Form::Fit => 4,
+    }
+}
+
+// Whether the first line says the form.
+fn has_form(s: &[u8], form: Form) -> bool
+    ensures { λ r. ⌜ r ≡ formStands (now (s .entry)) form ⌝ }
+{
+    match form {
+        Form::Control => has_word(s, b"control\n", 0),
+        Form::Fit => has_word(s, b"fit\n", 0),
+    }
+}
+
+// The form that the first line says, and Control where it says none.
+fn read_form(s: &[u8]) -> Form
+    ensures { λ r. ⌜ r ≡ formOf (now (s .entry)) ⌝ }
+{
+    if has_form(s, Form::Fit) {
+        return Form::Fit;
+    }
+    Form::Control
 }
 
 // The sheet that s is. Where it has not the form, its sections say nothing.
 pub fn read_sheet(s: &[u8]) -> Sheet
     ensures { λ r. ⌜ r ≡ sheetOf (now (s .entry)) ⌝ }
 {
-    let fit = has_word(s, b"fit\n", 0);
-    let form = number::either(fit, has_word(s, b"control\n", 0));
-    let points = read_section(s, b"points ", 66, 2, form_line(fit));
+    let form = read_form(s);
+    let points = read_section(s, b"points ", 66, 2, form_line(form));
     let knots = read_section(s, b"knots ", 70, 1, points.next);
     let parameters = read_section(s, b"at ", 1024, 1, knots.next);
     let ended = number::both(parameters.formed, parameters.next == s.len());
     let formed = number::both(
-        form,
+        has_form(s, form),
         number::both(points.formed, number::both(knots.formed, ended)),
     );
     Sheet {
         formed,
-        fit,
+        form,
         points,
         knots,
         parameters,
@@ -269,4 +293,38 @@ pub fn double(s: &[u8], at: usize) -> f64
         return 0.0;
     }
     of_bits(number(16, s, 16, at))
+}
+
+// ---- lines of recorded cases
+
+// A line of hexadecimal digits: whether it has the form, and the number that it writes.
+pub struct Line {
+    pub formed: bool,
+    pub bits: u64,
+}
+
+// What is read where there is no such line.
+fn no_line() -> Line
+    ensures { λ r. ⌜ r ≡ noLine ⌝ }
+{
+    Line {
+        formed: false,
+        bits: 0,
+    }
+}
+
+// The line of n digits that s begins with. There is none of more than 16.
+pub fn read_line(s: &[u8], n: usize) -> Line
+    ensures { λ r. ⌜ r ≡ lineOf (now (s .entry)) n ⌝ }
+{
+    if n > 16 {
+        return no_line();
+    }
+    if !has_hex(s, n, 10, 0) {
+        return no_line();
+    }
+    Line {
+        formed: true,
+        bits: number(16, s, n, 0),
+    }
 }

@@ -1,58 +1,42 @@
 -- The lines of a curve's parameters. Assumes nothing.
 use mathlib.Core.Path.{_≡_, refl, sym, ap, _∙_}
-use mathlib.Core.Bool.{cond}
 use mathlib.Core.List.{List, [], _∷_, _++_, append-assoc, append-nil}
-use Prim.Native.Nat.{ℕ, zero, suc, _+_, _*_, _≤_, _<_}
+use Prim.Native.Nat.{ℕ, _+_, _*_, _≤_, _<_}
 use native.Mathlib.Numerals.{add-one}
 use native.Mathlib.Omega.{arith}
 use borrow.Author.Tests.{eq-eqb, ne-eqb, eqb-true, eqb-false}
-use lib.Dec.{eqb}
-use lib.ListN.{length, take, replicate, length-append}
-use lib.Seq.{paste, take-suc, take-all}
+use lib.ListN.{length, take, length-append}
+use lib.Seq.{take-suc, take-all}
 use lib.Ieee.{Float, nan}
-use Rattle.meaning.specs.Scalar.{plain, zero64}
+use Rattle.meaning.specs.Scalar.{plain}
 use Rattle.meaning.specs.Table.{at1}
-use Rattle.meaning.specs.Refusals.{firstOf}
 use Rattle.meaning.proofs.Tests.{by-two}
+use Rattle.refusal.specs.declared.Refusal.{Refusal}
+use Rattle.refusal.specs.Refusals.{isNone}
+use Rattle.outcome.specs.Outcome.{outcome}
 use Rattle.curve.specs.declared.Curve.{Curve}
-use Rattle.curve.specs.Record.{shapeOf}
-use Rattle.point.specs.Evaluate.{pointOrders}
-use Rattle.sheet_text.specs.Printed.{refusalText, headText, pointText, Put}
-use Rattle.sheet_text.specs.Curves.{lineRules, lineText, linesText, builtText}
+use Rattle.curve.specs.declared.Built.{Built}
+use Rattle.sheet_text.specs.Printed.{refusalText, headText, pointText}
+use Rattle.sheet_text.specs.Put.{Put}
+use Rattle.sheet_text.specs.Curves.{lineAnswer, lineText, linesText, builtText}
 use Rattle.sheet_text.proofs.Putting.{joined, nothing, refusal-short, head-short, point-long}
 
--- what stands in a room of two after the first two numbers were put there
-two-of : (l : List Float) (i : ℕ) → i < 2 → at1 plain (paste (replicate 2 zero64) 0 l 2) i ≡ at1 plain l i
-two-of [] zero h = refl
-two-of [] (suc zero) h = refl
-two-of (x ∷ []) zero h = refl
-two-of (x ∷ []) (suc zero) h = refl
-two-of (x ∷ y ∷ l) zero h = refl
-two-of (x ∷ y ∷ l) (suc zero) h = refl
-two-of l (suc (suc i)) h = absurd (omega arith)
-
-module _ (c : Curve) (t : Float) where
-  pub line-refused : {n : ℕ} → n ≡ firstOf (lineRules c t) → (n ≡ 0 → ⊥) → lineText c t ≡ refusalText n
+module _ (c : Curve) (t : Float) {r : Refusal} {xy : List Float} (told : outcome r xy ≡ lineAnswer c t) where
+  pub line-refused : (r .number ≡ 0 → ⊥) → lineText c t ≡ refusalText r
   unfolding lineText
-  line-refused {n} e h = rw (← e, ne-eqb n 0 h)
+  line-refused h = rw (← told, ne-eqb (r .number) 0 h)
 
-  pub line-point : {n : ℕ} → n ≡ firstOf (lineRules c t) → n ≡ 0 → {xy : List Float}
-      → xy ≡ cond (eqb (firstOf (lineRules c t)) 0) (paste (replicate 2 zero64) 0 (pointOrders (shapeOf c) t 0) 2) (replicate 2 zero64)
-      → lineText c t ≡ pointText (at1 plain xy 0) (at1 plain xy 1)
+  pub line-point : r .number ≡ 0 → lineText c t ≡ pointText (at1 plain xy 0) (at1 plain xy 1)
   unfolding lineText
-  line-point {n} e h {xy} q =
-      let z : firstOf (lineRules c t) ≡ 0 = sym e ∙ h in
-      let w : xy ≡ paste (replicate 2 zero64) 0 (pointOrders (shapeOf c) t 0) 2 = q ∙ rw z in
-      let x : at1 plain xy 0 ≡ at1 plain (pointOrders (shapeOf c) t 0) 0 = ap (λ (l : List Float). at1 plain l 0) w ∙ two-of (pointOrders (shapeOf c) t 0) 0 (omega arith) in
-      let y : at1 plain xy 1 ≡ at1 plain (pointOrders (shapeOf c) t 0) 1 = ap (λ (l : List Float). at1 plain l 1) w ∙ two-of (pointOrders (shapeOf c) t 0) 1 (omega arith) in
-      rw z (λ i. pointText (sym x i) (sym y i))
+  line-point h = rw (← told, eq-eqb (r .number) 0 h)
 
-  pub line-short : length (lineText c t) ≤ 36
-  unfolding lineText
-  line-short =
-      by-two (eqb (firstOf (lineRules c t)) 0)
-      (λ h. rw h (omega (arith, point-long (at1 plain (pointOrders (shapeOf c) t 0) 0) (at1 plain (pointOrders (shapeOf c) t 0) 1))))
-      (λ h. rw h (omega (arith, refusal-short (firstOf (lineRules c t)))))
+line-short : (c : Curve) (t : Float) → length (lineText c t) ≤ 36
+unfolding lineText
+line-short c t =
+    let o = lineAnswer c t in
+    by-two (isNone (o .refusal))
+    (λ h. rw h (omega (arith, point-long (at1 plain (o .out) 0) (at1 plain (o .out) 1))))
+    (λ h. rw h (omega (arith, refusal-short (o .refusal))))
 
 -- ---- one line after the other
 
@@ -103,19 +87,20 @@ module _ (c : Curve) where
 
 -- ---- a build
 
-module _ (number : ℕ) (c : Curve) (ts : List Float) where
-  pub built-refused : (number ≡ 0 → ⊥) → builtText number c ts ≡ refusalText number
+module _ (b : Built) (ts : List Float) where
+  pub built-refused : (b .refusal .number ≡ 0 → ⊥) → builtText b ts ≡ refusalText (b .refusal)
   unfolding builtText
-  built-refused h = rw (ne-eqb number 0 h)
+  built-refused h = rw (ne-eqb (b .refusal .number) 0 h)
 
-  pub built-printed : number ≡ 0 → builtText number c ts ≡ headText (c .points) (c .«knot_count») ++ linesText c ts
+  pub built-printed : b .refusal .number ≡ 0 → builtText b ts ≡ headText (b .curve .points) (b .curve .«knot_count») ++ linesText (b .curve) ts
   unfolding builtText
-  built-printed h = rw (eq-eqb number 0 h)
+  built-printed h = rw (eq-eqb (b .refusal .number) 0 h)
 
-  pub built-short : length (builtText number c ts) ≤ 12 + 36 * length ts
+  pub built-short : length (builtText b ts) ≤ 12 + 36 * length ts
   built-short =
-      by-two (eqb number 0)
+      let c = b .curve in
+      by-two (isNone (b .refusal))
       (λ h.
-      rw (built-printed (eqb-true number 0 h), length-append (headText (c .points) (c .«knot_count»)) (linesText c ts))
+      rw (built-printed (eqb-true (b .refusal .number) 0 h), length-append (headText (c .points) (c .«knot_count»)) (linesText c ts))
       (omega (arith, head-short (c .points) (c .«knot_count»), lines-short c ts)))
-      (λ h. rw (built-refused (eqb-false number 0 h)) (omega (arith, refusal-short number)))
+      (λ h. rw (built-refused (eqb-false (b .refusal .number) 0 h)) (omega (arith, refusal-short (b .refusal))))

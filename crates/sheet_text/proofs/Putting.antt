@@ -13,7 +13,9 @@ use Rattle.meaning.proofs.Tests.{by-two}
 use Rattle.meaning.proofs.Filling.{length-listed}
 use Rattle.sheet_read.specs.Text.{text}
 use Rattle.sheet_read.specs.Number.{glyph}
-use Rattle.sheet_text.specs.Printed.{hexText, decimalText, doubleText, refusalText, headText, pointText, Put}
+use Rattle.refusal.specs.declared.Refusal.{Refusal}
+use Rattle.sheet_text.specs.Printed.{hexText, decimalText, doubleText, refusalText, headText, pointText}
+use Rattle.sheet_text.specs.Put.{Put}
 
 -- two texts, each in its place
 twice : (out t u : List ℕ) (at : ℕ) → at ≤ length out
@@ -72,9 +74,9 @@ double-long x = hex-long (toBits binary64 x)
 line-end : (t : List ℕ) → length (t ++ text "\n") ≡ length t + 1
 line-end t = length-append t (text "\n")
 
-pub refusal-short : (n : ℕ) → length (refusalText n) ≤ 5
+pub refusal-short : (r : Refusal) → length (refusalText r) ≤ 5
 unfolding refusalText
-refusal-short n = rw (line-end (text "r " ++ decimalText n)) (omega (arith, few-decimal n))
+refusal-short r = rw (line-end (text "r " ++ decimalText (r .number))) (omega (arith, few-decimal (r .number)))
 
 pub head-short : (n k : ℕ) → length (headText n k) ≤ 12
 unfolding headText

@@ -1,5 +1,5 @@
 -- From the build of a sheet to its answer. Assumes nothing.
-use mathlib.Core.Path.{_≡_, sym, ap, _∙_, subst}
+use mathlib.Core.Path.{_≡_, sym, ap, _∙_}
 use mathlib.Core.Bool.{true, false}
 use mathlib.Core.List.{List}
 use Prim.Native.Nat.{ℕ, _≤_, _<_}
@@ -9,39 +9,36 @@ use borrow.Author.Tests.{ltb-false, lt-ltb, le-ltb}
 use lib.ListN.{length}
 use lib.Seq.{paste}
 use lib.Ieee.{Float}
-use Rattle.meaning.specs.Refusals.{firstOf}
+use Rattle.refusal.specs.declared.Refusal.{Refusal}
+use Rattle.refusal.specs.Refusals.{refusal}
 use Rattle.curve.specs.declared.Built.{Built}
-use Rattle.fit.specs.Fit.{buildRules, curveOf, workOfBuild, AnswerCurve}
+use Rattle.fit.specs.Fit.{Making, making}
+use Rattle.build.specs.Build.{built}
 use Rattle.meaning.proofs.Tests.{by-two}
 use Rattle.sheet_read.proofs.Sections.{limits}
 use Rattle.sheet_read.specs.declared.Sheet.{Sheet}
 use Rattle.sheet_read.specs.Grammar.{sheetOf}
-use Rattle.sheet_text.specs.Printed.{refusalText, Put}
+use Rattle.sheet_text.specs.Printed.{refusalText}
+use Rattle.sheet_text.specs.Put.{Put}
 use Rattle.sheet_text.specs.Curves.{builtText}
-use Rattle.sheet_text.specs.Answer.{pointsOf, knotsOf, givenOf, parametersOf, rulesOf, sheetCurve, sheetText, sheetWork, answerText, answerWork, tooShort, Answered}
+use Rattle.sheet_text.specs.Answer.{pointsOf, knotsOf, givenOf, parametersOf, sheetBuild, sheetText, sheetWork, answerText, answerWork, tooShort, Answered}
 use Rattle.sheet_text.proofs.Front.{numbers-long}
 use Rattle.sheet_text.proofs.Putting.{refusal-short}
 use Rattle.sheet_text.proofs.Lines.{built-short}
 
 -- ---- the build
 
-module _ (s : List ℕ) (x : Sheet) (work : List Float) where
-  -- the build of the points p and the knots k
-  abbrev built : List Float → List Float → Built → List Float → Type 0
-  built p k b work′ =
-      AnswerCurve (buildRules (x .fit) p (givenOf s x) k work) (curveOf (x .fit) p (givenOf s x) k) (workOfBuild (x .fit) p (givenOf s x) k work) b work′
+module _ (s : List ℕ) (x : Sheet) (work : List Float) {p k : List Float} {b : Built} {work′ : List Float} (e : p ≡ pointsOf s x) (g : k ≡ knotsOf s x)
+    (a : making b work′ ≡ built (x .form) p (givenOf s x) k work) where
+  of-sheet : making b work′ ≡ sheetBuild s x work
+  of-sheet = a ∙ λ i. built (x .form) (e i) (givenOf s x) (g i) work
 
-  of-sheet : {p k : List Float} {b : Built} {work′ : List Float} → p ≡ pointsOf s x → k ≡ knotsOf s x → built p k b work′ → built (pointsOf s x) (knotsOf s x) b work′
-  of-sheet {p} {k} {b} {work′} e g a =
-      subst (λ (l : List Float). built l (knotsOf s x) b work′) e (subst (λ (l : List Float). built p l b work′) g a)
+  pub text-built : builtText b (parametersOf s x) ≡ sheetText s x work
+  unfolding sheetText
+  text-built = ap (λ (m : Making). builtText (m .built) (parametersOf s x)) of-sheet
 
-  module _ {p k : List Float} {b : Built} {work′ : List Float} (e : p ≡ pointsOf s x) (g : k ≡ knotsOf s x) (a : built p k b work′) where
-    pub text-built : builtText (b .refusal .number) (b .curve) (parametersOf s x) ≡ sheetText s x work
-    unfolding sheetText
-    text-built = let r = of-sheet e g a in (λ i. builtText (r .number i) (r .curve i) (parametersOf s x))
-
-    pub work-built : work′ ≡ sheetWork s x work
-    work-built = of-sheet e g a .work
+  pub work-built : work′ ≡ sheetWork s x work
+  work-built = ap (λ (m : Making). m .work) of-sheet
 
 -- ---- the door
 
@@ -59,9 +56,9 @@ module _ (s out : List ℕ) (work : List Float) where
           lent = rw f w;
         }
 
-    pub malformed : sheetOf s .formed ≡ false → Put out 0 (refusalText 16) out′ n → Answered s out work n out′ work
+    pub malformed : {r : Refusal} → sheetOf s .formed ≡ false → r ≡ refusal 16 → Put out 0 (refusalText r) out′ n → Answered s out work n out′ work
     unfolding answerText answerWork
-    malformed f p = answered (rw f) p (rw f)
+    malformed f e p = answered (ap refusalText e ∙ rw f) p (rw f)
 
     pub well-formed : {x : Sheet} {work′ : List Float} → x ≡ sheetOf s → x .formed ≡ true → Put out 0 (sheetText s x work) out′ n → work′ ≡ sheetWork s x work
         → Answered s out work n out′ work′
@@ -81,9 +78,9 @@ answer-short s work =
     by-two (x .formed)
     (λ h.
     rw h
-    (le-trans (built-short (firstOf (rulesOf s x work)) (sheetCurve s x work) (parametersOf s x))
+    (le-trans (built-short (sheetBuild s x work .built) (parametersOf s x))
     (omega (arith, numbers-long s (x .parameters .start) (x .parameters .count), limits s .parameters .0))))
-    (λ h. rw h (omega (arith, refusal-short 16)))
+    (λ h. rw h (omega (arith, refusal-short (refusal 16))))
 
 -- what the door answers is a count of bytes of `out`
 pub counted : {s out : List ℕ} {work : List Float} {n : ℕ} {out′ : List ℕ} {work′ : List Float} → Answered s out work n out′ work′ → n ≤ length out

@@ -1,4 +1,4 @@
--- What is answered to a sheet. Document 01, "The sheet program", decides: `r 16` where it has not the form; else the build, and each parameter's line.
+-- What is answered to a sheet. docs/RULES.md, "The sheet", decides: `r 16` where it has not the form; else the build, and each parameter's line.
 use mathlib.Core.Path.{_≡_}
 use mathlib.Core.Bool.{Bool, not, cond}
 use mathlib.Core.List.{List}
@@ -7,10 +7,9 @@ use lib.ListN.{length}
 use lib.Seq.{paste}
 use lib.Dec.{ltb, eqb}
 use lib.Ieee.{Float}
-use Rattle.meaning.specs.Refusals.{Row, firstOf}
-use Rattle.curve.specs.declared.Curve.{Curve}
-use Rattle.curve.specs.Build.{builtBy}
-use Rattle.fit.specs.Fit.{buildRules, curveOf, workOfBuild}
+use Rattle.refusal.specs.Refusals.{refusal}
+use Rattle.fit.specs.Fit.{Making}
+use Rattle.build.specs.Build.{built}
 use Rattle.sheet_read.specs.declared.Sheet.{Sheet}
 use Rattle.sheet_read.specs.Grammar.{numbersAt, sheetOf}
 use Rattle.sheet_text.specs.Printed.{refusalText}
@@ -33,22 +32,19 @@ module _ (s : List ℕ) (x : Sheet) where
   parametersOf = numbersAt s (x .parameters .start) (x .parameters .count)
 
   -- the build, with a lent work buffer
-  abbrev pub rulesOf : List Float → List Row
-  rulesOf work = buildRules (x .fit) pointsOf givenOf knotsOf work
-
-  abbrev pub sheetCurve : List Float → Curve
-  sheetCurve work = builtBy (rulesOf work) (curveOf (x .fit) pointsOf givenOf knotsOf)
+  abbrev pub sheetBuild : List Float → Making
+  sheetBuild work = built (x .form) pointsOf givenOf knotsOf work
 
   unfoldable pub sheetText : List Float → List ℕ
-  sheetText work = builtText (firstOf (rulesOf work)) (sheetCurve work) parametersOf
+  sheetText work = builtText (sheetBuild work .built) parametersOf
 
   abbrev pub sheetWork : List Float → List Float
-  sheetWork work = workOfBuild (x .fit) pointsOf givenOf knotsOf work
+  sheetWork work = sheetBuild work .work
 
 -- ---- what any text is answered, and the work buffer afterwards
 
 unfoldable pub answerText : List ℕ → List Float → List ℕ
-answerText s work = cond (sheetOf s .formed) (sheetText s (sheetOf s) work) (refusalText 16)
+answerText s work = cond (sheetOf s .formed) (sheetText s (sheetOf s) work) (refusalText (refusal 16))
 
 unfoldable pub answerWork : List ℕ → List Float → List Float
 answerWork s work = cond (sheetOf s .formed) (sheetWork s (sheetOf s) work) work

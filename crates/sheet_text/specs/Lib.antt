@@ -2,3 +2,4 @@
 pub mod Printed
 pub mod Curves
 pub mod Answer
+pub mod Put

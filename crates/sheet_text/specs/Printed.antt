@@ -1,14 +1,12 @@
--- What the answer to a sheet is made of. Document 01, "The sheet program", decides.
-use mathlib.Core.Path.{_≡_}
+-- What the answer to a sheet is made of. docs/RULES.md, "The sheet", decides.
 use mathlib.Core.Bool.{cond}
 use mathlib.Core.List.{List, [], _∷_, _++_}
 use Prim.Native.String.{String}
-use Prim.Native.Nat.{ℕ, _+_, _-_, _*_, _/_, _%_, _^_, _≤_}
-use lib.ListN.{length}
-use lib.Seq.{paste}
+use Prim.Native.Nat.{ℕ, _-_, _*_, _/_, _%_, _^_}
 use lib.Dec.{ltb}
 use lib.Ieee.{Float, binary64, toBits}
 use Rattle.meaning.specs.Search.{listed}
+use Rattle.refusal.specs.declared.Refusal.{Refusal}
 use Rattle.sheet_read.specs.Text.{text}
 use Rattle.sheet_read.specs.Number.{glyph}
 
@@ -31,9 +29,9 @@ doubleText x = hexText (toBits binary64 x)
 abbrev pub worded : String → List ℕ → List ℕ
 worded w number = text w ++ number
 
-unfoldable pub refusalText : ℕ → List ℕ
+unfoldable pub refusalText : Refusal → List ℕ
 unfolding decimalText
-refusalText number = worded "r " (decimalText number) ++ text "\n"
+refusalText r = worded "r " (decimalText (r .number)) ++ text "\n"
 
 unfoldable pub headText : ℕ → ℕ → List ℕ
 unfolding decimalText
@@ -42,12 +40,3 @@ headText points knots = worded "curve " (decimalText points) ++ (worded " " (dec
 unfoldable pub pointText : Float → Float → List ℕ
 unfolding doubleText
 pointText x y = worded "p " (doubleText x) ++ (worded " " (doubleText y) ++ text "\n")
-
--- ---- into a lent slice
-
--- there was room for the text w from index `at` on, and `out` holds it there afterwards; `at′` is the index after it
-pub record Put (out : List ℕ) (at : ℕ) (w : List ℕ) (out′ : List ℕ) (at′ : ℕ) : Type 0 where
-  pub room : at + length w ≤ length out
-  pub long : length out′ ≡ length out
-  pub bytes : out′ ≡ paste out at w (length w)
-  pub place : at′ ≡ at + length w

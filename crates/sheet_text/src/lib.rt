@@ -7,11 +7,13 @@ ghost use lib.Ieee.{binary64, toBits};
 ghost use Rattle.sheet_read.specs.Number.{glyph};
 ghost use Rattle.sheet_read.specs.Grammar.{numbersAt};
 ghost use Rattle.sheet_read.proofs.Sections.{Limits};
-ghost use Rattle.sheet_text.specs.Printed.{hexText, decimalText, doubleText, refusalText, headText, pointText, Put};
+ghost use Rattle.sheet_text.specs.Printed.{hexText, decimalText, doubleText, refusalText, headText, pointText};
+ghost use Rattle.sheet_text.specs.Put.{Put};
 ghost use Rattle.sheet_text.specs.Curves.{lineText, linesText, builtText};
 ghost use Rattle.sheet_text.specs.Answer.{sheetText, sheetWork, Answered};
 use curve::Built;
 use curve::Curve;
+use refusal::Refusal;
 use sheet_read::Sheet;
 
 // ---- digits
@@ -93,11 +95,11 @@ fn put_double(out: &mut [u8], at: usize, w: &[u8], x: f64) -> usize
 }
 
 // The line of a refusal.
-fn put_refusal(out: &mut [u8], at: usize, number: u64) -> usize
+fn put_refusal(out: &mut [u8], at: usize, refusal: Refusal) -> usize
     requires { ⌜ at + 5 ≤ length (now out) ⌝ }
-    ensures { λ r. ⌜ Put (now (out .entry)) at (refusalText number) (now (out .exit)) r ⌝ }
+    ensures { λ r. ⌜ Put (now (out .entry)) at (refusalText refusal) (now (out .exit)) r ⌝ }
 {
-    let a = put_number(out, at, b"r ", number);
+    let a = put_number(out, at, b"r ", refusal.number);
     put(out, a, b"\n")
 }
 
@@ -132,7 +134,7 @@ fn put_line(out: &mut [u8], at: usize, c: Curve, t: f64) -> usize
     let mut xy = [0.0; 2];
     let r = point::evaluate(c, t, 0, &mut xy);
     if r.number != 0 {
-        return put_refusal(out, at, r.number);
+        return put_refusal(out, at, r);
     }
     put_point(out, at, xy[0], xy[1])
 }
@@ -152,10 +154,11 @@ fn put_lines(out: &mut [u8], at: usize, c: Curve, s: &[u8], start: usize, n: usi
 // What is printed of a build at the n parameters that stand in s from `start` on.
 fn put_built(out: &mut [u8], b: Built, s: &[u8], start: usize, n: usize) -> usize
     requires { ⌜ (n ≤ 1024) × (start ≤ 5000) ⌝ ∗ ⌜ 12 + 36 * n ≤ length (now out) ⌝ }
-    ensures { λ r. ⌜ Put (now (out .entry)) 0 (builtText (b .refusal .number) (b .curve) (numbersAt (now (s .entry)) start n)) (now (out .exit)) r ⌝ }
+    ensures { λ r. ⌜ Put (now (out .entry)) 0 (builtText b (numbersAt (now (s .entry)) start n)) (now (out .exit)) r ⌝ }
 {
-    if b.refusal.number != 0 {
-        return put_refusal(out, 0, b.refusal.number);
+    let refusal = b.refusal;
+    if refusal.number != 0 {
+        return put_refusal(out, 0, refusal);
     }
     let c = b.curve;
     let at = put_head(out, 0, c.points as u64, c.knot_count as u64);
@@ -186,7 +189,8 @@ fn answer_sheet(s: &[u8], x: Sheet, out: &mut [u8], work: &mut [f64]) -> usize
     take_numbers(s, x.points.start, n, &mut points);
     let mut knots = [0.0; 70];
     take_numbers(s, x.knots.start, k, &mut knots);
-    let b = fit::build(&points[..n], x.fit, k != 0, &knots[..k], work);
+    let form = x.form;
+    let b = build::build(form, &points[..n], k != 0, &knots[..k], work);
     put_built(out, b, s, x.parameters.start, x.parameters.count)
 }
 
@@ -200,7 +204,7 @@ pub fn answer(s: &[u8], out: &mut [u8], work: &mut [f64]) -> usize
     }
     let x = sheet_read::read_sheet(s);
     if !x.formed {
-        return put_refusal(out, 0, 16);
+        return put_refusal(out, 0, refusal::by(16));
     }
     answer_sheet(s, x, out, work)
 }

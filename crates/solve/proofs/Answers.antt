@@ -47,14 +47,10 @@ module _ {A : Type 0} {m s : ℕ} {M : List (List A)} (rest w : List A) (r : ℕ
   answer-value o c d n x l q = rw (q, read-cell rest w r e sh h d l (o .off))
 
 module _ {A : Type 0} (o : Ops A) (m : ℕ) where
-  answered-shaped : (s k : ℕ) (M : List (List A)) (r d n : ℕ) → r < m → Shaped m s M → Shaped m s (answered o k M r d n)
+  pub answered-shaped : (s k : ℕ) (M : List (List A)) (r d n : ℕ) → r < m → Shaped m s M → Shaped m s (answered o k M r d n)
   unfolding answered
   answered-shaped s k M r d n h sh =
       shaped-set r (set (set (getD M r []) k (answer o M r k d n)) (k + 1) (answer o M r (k + 1) d n)) sh h (simp length-set (sh .each r h))
-
-  pub backed-none : (M : List (List A)) → backed o m 0 M ≡ M
-  unfolding backed
-  backed-none M = refl
 
   pub backed-next : (n : ℕ) (M : List (List A)) → backed o m (n + 1) M ≡ answeredUp o m n (backed o m n M)
   unfolding backed

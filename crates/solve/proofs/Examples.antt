@@ -11,7 +11,7 @@ use Rattle.meaning.specs.Scalar.{plain}
 use Rattle.meaning.specs.Number.{smaller}
 use Rattle.solve.specs.Rows.{flat}
 use Rattle.solve.specs.Substitution.{solvedOk}
-use Rattle.solve.specs.Outcome.{solveOf}
+use Rattle.solve.specs.Buffer.{solveOf}
 
 -- a whole number that is not negative, and one that is not positive
 abbrev num : ℕ → ℕ → Float

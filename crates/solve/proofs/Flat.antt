@@ -10,9 +10,10 @@ use native.Mathlib.Omega.{arith}
 use lib.Dec.{eqb}
 use borrow.Author.Tests.{eqb-true, eqb-false}
 use borrow.Rule.Slice.PartMut.{putMid, post-is}
-use lib.ListN.{length, getD, set, take, drop, length-drop, length-set, take-append-drop, List·getD-append, replicate, replicate-append-replicate, length-replicate, getD-replicate}
+use lib.ListN.{length, getD, set, take, drop, length-drop, length-set, take-append-drop, List·getD-append}
 use lib.Seq.{set-append-left, take-at, drop-at, drop-drop, length-take-le, drop-append-add, take-append-add, getD-append-add, getD-set-same, getD-set-other, set-set, set-getD}
-use Rattle.solve.specs.Rows.{flat, rowsOf, swapped, Shaped}
+use Rattle.solve.specs.Rows.{flat, rowsOf, Shaped}
+use Rattle.solve.specs.Elimination.{exchanged}
 
 shift : (r s : ℕ) → suc r * s ≡ s + r * s
 shift r s = suc-mul r s ∙ add-comm (r * s) s
@@ -156,22 +157,6 @@ module _ {A : Type 0} where
   pub rows-shaped-of : (m s : ℕ) (l : List A) → m * s ≤ length l → Shaped m s (rowsOf m s l)
   rows-shaped-of m s l h = record { count = rows-count m s l; each = rows-each m s l h }
 
-  -- ---- cleared rows are a cleared list
-  pub flat-zeros : (m s : ℕ) (z : A) (rest : List A) → flat (replicate m (replicate s z)) rest ≡ replicate (m * s) z ++ rest
-  unfolding flat
-  flat-zeros zero s z rest = sym (ap (λ (n : ℕ). replicate n z ++ rest) (zero-mul s))
-  flat-zeros (suc m) s z rest =
-      ap (λ (l : List A). replicate s z ++ l) (flat-zeros m s z rest)
-      ∙ sym (append-assoc (replicate s z) (replicate (m * s) z) rest)
-      ∙ ap (λ (l : List A). l ++ rest) (replicate-append-replicate s (m * s) z)
-      ∙ ap (λ (n : ℕ). replicate n z ++ rest) (sym (shift m s))
-
-  pub zeros-shaped : (m s : ℕ) (z : A) → Shaped m s (replicate m (replicate s z))
-  zeros-shaped m s z = record {
-    count = length-replicate m (replicate s z);
-    each = λ r h. ap length (getD-replicate m r (replicate s z) [] h) ∙ length-replicate s z;
-  }
-
   -- ---- shapes that stay
   pub shaped-set : {m s : ℕ} {M : List (List A)} (r : ℕ) (y : List A) → Shaped m s M → r < m → length y ≡ s → Shaped m s (set M r y)
   shaped-set {M = M} r y sh h l = record {
@@ -182,30 +167,30 @@ module _ {A : Type 0} where
         (same i r);
   }
 
-  pub swapped-shaped : (M : List (List A)) (m s i j : ℕ) → i < m → j < m → Shaped m s M → Shaped m s (swapped M i j)
-  unfolding swapped
+  pub swapped-shaped : (M : List (List A)) (m s i j : ℕ) → i < m → j < m → Shaped m s M → Shaped m s (exchanged M i j)
+  unfolding exchanged
   swapped-shaped M m s i j h g sh = shaped-set j (getD M i []) (shaped-set i (getD M j []) sh h (sh .each j g)) g (sh .each i h)
 
   -- ---- the rows once two of them are exchanged
   module _ (M : List (List A)) (i j : ℕ) (h : i < length M) (g : j < length M) where
-    pub swapped-second : getD (swapped M i j) j [] ≡ getD M i []
-    unfolding swapped
+    pub swapped-second : getD (exchanged M i j) j [] ≡ getD M i []
+    unfolding exchanged
     swapped-second = getD-set-same (set M i (getD M j [])) j (getD M i []) [] (omega (arith, length-set M i (getD M j [])))
 
-    pub swapped-first : getD (swapped M i j) i [] ≡ getD M j []
-    unfolding swapped
+    pub swapped-first : getD (exchanged M i j) i [] ≡ getD M j []
+    unfolding exchanged
     swapped-first = ⊎-elim
-        (λ (e : i ≡ j). ap (λ (k : ℕ). getD (swapped M i j) k []) e ∙ swapped-second ∙ ap (λ (k : ℕ). getD M k []) e)
+        (λ (e : i ≡ j). ap (λ (k : ℕ). getD (exchanged M i j) k []) e ∙ swapped-second ∙ ap (λ (k : ℕ). getD M k []) e)
         (λ (n : i ≡ j → ⊥). getD-set-other (set M i (getD M j [])) j i (getD M i []) [] n ∙ getD-set-same M i (getD M j []) [] h)
         (same i j)
 
-    pub swapped-other : (r : ℕ) → (r ≡ i → ⊥) → (r ≡ j → ⊥) → getD (swapped M i j) r [] ≡ getD M r []
-    unfolding swapped
+    pub swapped-other : (r : ℕ) → (r ≡ i → ⊥) → (r ≡ j → ⊥) → getD (exchanged M i j) r [] ≡ getD M r []
+    unfolding exchanged
     swapped-other r p q = getD-set-other (set M i (getD M j [])) j r (getD M i []) [] q ∙ getD-set-other M i r (getD M j []) [] p
 
   -- a row exchanged with itself
-  pub swapped-same : (M : List (List A)) (i : ℕ) → swapped M i i ≡ M
-  unfolding swapped
+  pub swapped-same : (M : List (List A)) (i : ℕ) → exchanged M i i ≡ M
+  unfolding exchanged
   swapped-same M i = set-set M i (getD M i []) (getD M i []) ∙ set-getD M i []
 
 -- ---- a buffer w that holds the rows M: row r as it is lent and as it comes back

@@ -149,7 +149,7 @@ module _ {A : Type 0} (o : Ops A) where
     unfolding pivoted
     pivoted-shaped s col M h sh = swapped-shaped M m s col (pivot o m col M) h (pivot-lt col M h) sh
 
-    column-shaped : (s col : ℕ) (M : List (List A)) → col < m → Shaped m s M → Shaped m s (columnDone o m col M)
+    pub column-shaped : (s col : ℕ) (M : List (List A)) → col < m → Shaped m s M → Shaped m s (columnDone o m col M)
     unfolding columnDone
     column-shaped s col M h sh =
         let N = pivoted o m col M in

@@ -1,10 +1,10 @@
 -- Elimination with partial pivoting on a list of rows, over any scalar. A row has n matrix numbers and its right sides after them.
--- Document 01, "Solve", decides, and document 000's operation order: the multiplier stands first in the products of the matrix and second
+-- docs/RULES.md, "Solve", decides, and the original's operation order: the multiplier stands first in the products of the matrix and second
 -- in those of the right sides. Beside each definition stands its verdict: every number that it stores, and every multiplier, is finite.
 use mathlib.Core.Bool.{Bool, true, _&&_, cond}
 use mathlib.Core.List.{List, []}
 use Prim.Native.Nat.{ℕ, _+_, _-_}
-use lib.ListN.{length, getD}
+use lib.ListN.{length, getD, set}
 use lib.Dec.{leb, ltb}
 use lib.Ieee.{eq}
 use Rattle.meaning.specs.Scalar.{Ops, zero64}
@@ -12,7 +12,10 @@ use Rattle.meaning.specs.Number.{atLeast}
 use Rattle.meaning.specs.Loops.{turns}
 use Rattle.meaning.specs.Table.{at1, at2}
 use Rattle.meaning.specs.Search.{listed, every}
-use Rattle.solve.specs.Rows.{swapped}
+
+-- rows i and j exchanged
+unfoldable pub exchanged : {A : Type 0} → List (List A) → ℕ → ℕ → List (List A)
+exchanged M i j = set (set M i (getD M j [])) j (getD M i [])
 
 module _ {A : Type 0} (o : Ops A) where
   -- row r, if its number k is at least in size that of the best row so far
@@ -78,8 +81,8 @@ module _ {A : Type 0} (o : Ops A) where
   pivot m col M = bestAmong M col col (m - 1 - col)
 
   unfoldable pub pivoted : ℕ → ℕ → List (List A) → List (List A)
-  unfolding pivot swapped
-  pivoted m col M = swapped M col (pivot m col M)
+  unfolding pivot exchanged
+  pivoted m col M = exchanged M col (pivot m col M)
 
   -- column col's whole step
   unfoldable pub columnDone : ℕ → ℕ → List (List A) → List (List A)

@@ -4,3 +4,4 @@ pub mod Elimination
 pub mod Substitution
 pub mod Outcome
 pub mod View
+pub mod Buffer

@@ -1,4 +1,4 @@
--- What a solve answers and what it leaves in the buffer that it was lent. Document 01, "Work", decides: m rows of m + 2 numbers lie at the
+-- What a solve answers and what it leaves in the buffer that it was lent. docs/RULES.md, "Work", decides: m rows of m + 2 numbers lie at the
 -- front, m² + 2m doubles, and hold +0.0 afterwards; the rest is unchanged. It is the whole promise: it says nothing of where a row lies in between.
 use mathlib.Core.Bool.{Bool, true, false, _&&_, cond}
 use mathlib.Core.List.{List, _++_}
@@ -6,10 +6,9 @@ use Prim.Native.Nat.{ℕ, _+_, _*_}
 use lib.ListN.{length, drop, replicate}
 use lib.Dec.{leb}
 use lib.Ieee.{Float}
-use Rattle.meaning.specs.Scalar.{Ops, plain, zero64}
+use Rattle.meaning.specs.Scalar.{Ops, zero64}
 use Rattle.meaning.specs.Table.{at2}
 use Rattle.meaning.specs.Search.{listed}
-use Rattle.solve.specs.Rows.{rowsOf}
 use Rattle.solve.specs.Substitution.{solved, solvedOk}
 
 -- the two coordinates of the control points, 66 of each, and whether every number stored on the way was finite
@@ -42,10 +41,6 @@ module _ {A : Type 0} (o : Ops A) where
 abbrev pub fits : {A : Type 0} → ℕ → List A → Bool
 fits m w = leb 1 m && (leb m 66 && leb (m * (m + 2)) (length w))
 
--- the answers of the rows that a buffer of doubles holds, and the buffer afterwards
-unfoldable pub solveOf : ℕ → List Float → Solution Float
-unfolding rowsOf solutionOf
-solveOf m w = cond (fits m w) (solutionOf plain m (rowsOf m (m + 2) w)) (noSolution plain)
-
+-- the buffer afterwards
 unfoldable pub workOf : ℕ → List Float → List Float
 workOf m w = cond (fits m w) (replicate (m * (m + 2)) zero64 ++ drop (m * (m + 2)) w) w

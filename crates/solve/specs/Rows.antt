@@ -1,12 +1,8 @@
--- Rows of numbers: a list of lists, and the same laid one after the other in a buffer.
+-- Inner: rows of numbers, a list of lists, and the same laid one after the other in a buffer.
 use mathlib.Core.Path.{_≡_}
 use mathlib.Core.List.{List, [], _∷_, _++_}
 use Prim.Native.Nat.{ℕ, zero, suc, _<_}
-use lib.ListN.{length, take, drop, getD, set}
-
--- rows i and j exchanged
-unfoldable pub swapped : {A : Type 0} → List (List A) → ℕ → ℕ → List (List A)
-swapped M i j = set (set M i (getD M j [])) j (getD M i [])
+use lib.ListN.{length, take, drop, getD}
 
 -- rows laid one after the other, and what stands after them
 unfoldable pub flat : {A : Type 0} → List (List A) → List A → List A

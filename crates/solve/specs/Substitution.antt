@@ -1,5 +1,5 @@
--- Back substitution on a list of rows, over any scalar: a row's two right sides give way to its answers, from the last row up. Document 01,
--- "Solve", decides, and document 000's operation order. Beside each definition stands its verdict: the answers are finite.
+-- Back substitution on a list of rows, over any scalar: a row's two right sides give way to its answers, from the last row up. docs/RULES.md,
+-- "Solve", decides, and the original's operation order. Beside each definition stands its verdict: the answers are finite.
 use mathlib.Core.Bool.{Bool, _&&_}
 use mathlib.Core.List.{List, []}
 use Prim.Native.Nat.{ℕ, _+_, _-_}

@@ -1,4 +1,4 @@
--- The struct of the code, as the definitions see it.
+-- Inner: the struct of the code, as the definitions see it.
 use lib.Ieee.{Float}
 use Rattle.solve.specs.declared.Solved as Code
 use Rattle.solve.specs.Outcome.{Solution}

@@ -5,7 +5,8 @@ ghost use Prim.Native.Nat.{_+_, _*_, _≤_};
 ghost use lib.ListN.{length, replicate};
 ghost use Rattle.meaning.specs.Scalar.{plain, zero64};
 ghost use Rattle.solve.specs.Rows.{ofRows};
-ghost use Rattle.solve.specs.Outcome.{noSolution, solutionOf, solveOf, workOf};
+ghost use Rattle.solve.specs.Outcome.{noSolution, solutionOf, workOf};
+ghost use Rattle.solve.specs.Buffer.{solveOf};
 ghost use Rattle.solve.specs.View.{view};
 
 mod dense;
@@ -49,7 +50,7 @@ fn solve_lent(w: &mut [f64], m: usize) -> Solved
 
 // Solves the m rows of m matrix numbers and two right sides that lie at the front of w, and clears their room, m² + 2m doubles. Where m is 0 or
 // above 66, or w is shorter, w stays as it is and there is no answer. The numbers that lie in w at first are the caller's to judge.
-// Corresponds to 000 solve.
+// Corresponds to spline.rs: solve.
 pub fn solve(w: &mut [f64], m: usize) -> Solved
     ensures { λ r. ⌜ view r ≡ solveOf m (now (w .entry)) ⌝ ∗ ⌜ now (w .exit) ≡ workOf m (now (w .entry)) ⌝ }
 {

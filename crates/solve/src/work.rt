@@ -5,8 +5,8 @@ ghost use mathlib.Core.List.{[], _++_};
 ghost use Prim.Native.Nat.{_+_, _*_, _<_, _≤_};
 ghost use lib.ListN.{length, take, drop, getD, set, replicate};
 ghost use Rattle.meaning.specs.Scalar.{plain, zero64};
-ghost use Rattle.solve.specs.Rows.{flat, swapped, ofRows};
-ghost use Rattle.solve.specs.Elimination.{bestAmong, lessBy, subtracted, subtractedOk, reduced, reducedOk};
+ghost use Rattle.solve.specs.Rows.{flat, ofRows};
+ghost use Rattle.solve.specs.Elimination.{exchanged, bestAmong, lessBy, subtracted, subtractedOk, reduced, reducedOk};
 ghost use Rattle.solve.specs.Substitution.{remains, answered, answeredOk};
 ghost use Rattle.solve.specs.Outcome.{column, zeros};
 
@@ -57,7 +57,7 @@ fn store_at(w: &mut [f64], m: usize, s: usize, r: usize, y: &[f64])
 // Rows i and j exchanged.
 pub(crate) fn swap_rows(w: &mut [f64], m: usize, s: usize, i: usize, j: usize)
     requires { ⌜ (i < m) × (j < m) × (s ≤ 68) × (m * s ≤ length (now w)) ⌝ }
-    ensures { λ _. ⌜ ofRows m s (now (w .entry)) (λ M rest. now (w .exit) ≡ flat (swapped M i j) rest) ⌝ }
+    ensures { λ _. ⌜ ofRows m s (now (w .entry)) (λ M rest. now (w .exit) ≡ flat (exchanged M i j) rest) ⌝ }
 {
     if i == j {
         return;

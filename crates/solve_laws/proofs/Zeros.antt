@@ -3,11 +3,11 @@
 use mathlib.Core.Path.{_≡_, refl, sym, ap, _∙_, subst}
 use mathlib.Core.Bool.{Bool, true, false, not, _&&_, _||_, Bool·beq}
 use Prim.Native.Nat.{ℕ, zero, suc, _+_, _-_, _*_, _%_, _^_, _≤_, _<_}
-use native.Mathlib.Nat.{lt-of-not-le, not-le-of-lt, lt-of-lt-of-le, le-trans, le-of-eq, le-of-suc-le-suc, mul-lt-mul-of-pos-right, mul-pos, zero-mul, mul-one, one-mul, mul-assoc, sub-self, zero-lt-suc}
+use native.Mathlib.Nat.{lt-of-lt-of-le, le-trans, le-of-eq, mul-lt-mul-of-pos-right, mul-pos, zero-mul, mul-one, one-mul, mul-assoc, sub-self, zero-lt-suc}
 use native.Mathlib.Omega.{arith}
 use borrow.Author.Tests.{le-ltb, eqb-true}
 use lib.Dec.{eqb·suc-zero, T, ltb, eqb, leb, leb→le, ltb→lt}
-use lib.Pow.{pow-pos, pow-add, pow-lt, pow-mono}
+use lib.Pow.{pow-pos, pow-add, pow-mono}
 use lib.IntN.{ℤ, pos, negsuc}
 use lib.Ieee.{Float, nan, inf, fin, Format, binary64, up, down, unlike, round, sum, add, sub, neg, mul, div, eq, level, fits, ofBits}
 use lib.Ieee.Fits.{up-pos, down-pos, and-l, and-r}
@@ -15,6 +15,7 @@ use lib.Ieee.Exact.{HasValue, round-exact}
 use lib.Ieee.Scale.{round-same, finite}
 use Rattle.meaning.specs.Scalar.{zero64, one64}
 use Rattle.meaning.proofs.Tests.{no, and-left}
+use Rattle.meaning.proofs.Whole.{exponent}
 
 abbrev B : Format
 B = binary64
@@ -110,9 +111,6 @@ exact s q (negsuc k) h d b =
   where
     few : (k : ℕ) → 53 + (1074 - suc k) ≤ 1074 + 1024
     few k = omega arith
-
-    exponent : (k l : ℕ) → 2 ^ k ≤ 2 ^ l → k ≤ l
-    exponent k l h = le-of-suc-le-suc (lt-of-not-le (λ (g : suc l ≤ k). not-le-of-lt (pow-lt {i = l} {j = k} g) h))
 
     shifted : (k l : ℕ) → k ≤ l → 2 ^ l ≡ 2 ^ (l - k) * 2 ^ k
     shifted k l h = let e : l ≡ l - k + k = omega arith in ap (λ (z : ℕ). 2 ^ z) e ∙ pow-add 2 (l - k) k

@@ -165,14 +165,6 @@ module _ (ks : List Float) (n : ℕ) (t : Float) (f : 4 ≤ n) (r : n ≤ 66) wh
   unfolding halvedOf
   opened = rw (le-ltb n 4 f, le-ltb 66 n r)
 
-  pub halved-bounds : (3 ≤ halvedOf ks n t) × (halvedOf ks n t < n)
-  halved-bounds = rw opened (by (le (knot ks n) t) (le t (knot ks 3)))
-    where
-      by : (a b : Bool) → (3 ≤ cond a (n - 1) (cond b 3 (whole ks n t .lo))) × (cond a (n - 1) (cond b 3 (whole ks n t .lo)) < n)
-      by true b = (omega arith, omega arith)
-      by false true = (omega arith, omega arith)
-      by false false = let l = halves ks n t f in (l .low, omega (arith, l .high, l .next))
-
   a-nan : isNan t ≡ true → halvedOf ks n t ≡ spanOf ks n t
   a-nan h =
       let e = is-nan t h in

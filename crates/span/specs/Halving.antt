@@ -1,4 +1,4 @@
--- The span as the code finds it, by document 000's halving, for any knots and any n. For knots that do not fall it is `spanOf`, which
+-- Inner: the span as the code finds it, by the original's halving, for any knots and any n. For knots that do not fall it is `spanOf`, which
 -- `proofs/Spans.antt` shows; a reader of the rule needs `Span.antt` alone.
 use mathlib.Core.Bool.{Bool, true, false, cond}
 use mathlib.Core.List.{List}

@@ -1,3 +1,3 @@
--- The span, as document 01 says it, and the search that finds it.
+-- The span, as docs/RULES.md says it, and the search that finds it.
 pub mod Span
 pub mod Halving

@@ -1,5 +1,5 @@
--- The span of a parameter. Document 01, "Span", decides: at or above knot n it is n-1; else at or below knot 3 it is 3; else the i with
--- knot i ≤ t < knot i+1. Where there is none, which among knots that do not fall only a NaN shows, it is n-1, as in document 000.
+-- The span of a parameter. docs/RULES.md, "Span", decides: at or above knot n it is n-1; else at or below knot 3 it is 3; else the i with
+-- knot i ≤ t < knot i+1. Where there is none, which among knots that do not fall only a NaN shows, it is n-1, as in the original.
 use mathlib.Core.Bool.{Bool, _&&_, cond}
 use mathlib.Core.List.{List}
 use Prim.Native.Nat.{ℕ, _+_, _-_}

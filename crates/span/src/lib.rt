@@ -42,7 +42,7 @@ fn halved(u: &[f64; 70], n: usize, t: f64) -> usize
 }
 
 // The span of t among the knots of n control points: for knots that do not fall, the i with knot i ≤ t < knot i+1, or the end's.
-// Corresponds to 000 Curve::span.
+// Corresponds to spline.rs: Curve::span.
 pub fn span(u: &[f64; 70], n: usize, t: f64) -> usize
     ensures { λ r. ⌜ r ≡ halvedOf (now (u .entry)) n t ⌝ ∗ ⌜ 3 ≤ r ⌝ ∗ ⌜ r ≤ 65 ⌝ ∗ ⌜ (4 ≤ n → r < n) ⌝ }
 {

@@ -63,7 +63,7 @@ fn print_all(c: Curve) {
 
 fn main() {
     let points = control();
-    let built = control::build_control(&points, false, &points);
+    let built = control::build_control(&points, false, &points, false);
     if built.refusal.number == 0 {
         print_all(built.curve);
     } else {

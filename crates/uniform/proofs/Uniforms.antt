@@ -1,7 +1,7 @@
 -- The uniform knots pass the rules, for each number of control points that a curve can have. Knot j is c / (n - 3), rounded, for a c that does not fall
 -- as j rises; and (c + 1) / s stays above c / s when both are rounded, since two multiples of 1 / 128 lie between them. Assumes nothing.
 use mathlib.Core.Path.{_≡_, refl, sym, ap, _∙_, subst}
-use mathlib.Core.Bool.{true, false, not, _&&_, cond, and-false}
+use mathlib.Core.Bool.{true, false, _&&_, cond}
 use mathlib.Core.List.{List}
 use Prim.Native.Nat.{ℕ, zero, suc, _+_, _-_, _*_, _/_, _^_, _≤_, _<_, min}
 use native.Mathlib.Nat.{le-refl, zero-add, lt-irrefl, lt-of-lt-of-le, mul-assoc, mul-comm, mul-right-comm, mul-left-comm, div-le-self, mul-one, mul-pos, zero-mul, add-mul, mul-lt-mul-of-pos-right, mul-le-mul-right, lt-of-mul-lt-mul-right, div-add-mod', mod-lt}
@@ -11,7 +11,7 @@ use lib.Dec.{eqb·suc-zero, ltb, leb, leb→le}
 use lib.Pow.{pow-pos}
 use lib.ListN.{take, length, length-take}
 use lib.Seq.{getD-take}
-use lib.Ieee.{Float, nan, inf, fin, binary64, up, down, round, lt, le, eq, ne, div, ofInt, ofBits}
+use lib.Ieee.{Float, nan, inf, fin, binary64, up, down, round, lt, le, eq, div, ofInt, ofBits}
 use lib.Ieee.Fits.{down-pos}
 use lib.Ieee.Exact.{HasValue, round-exact}
 use lib.Ieee.Back.{round-whole}
@@ -19,15 +19,14 @@ use lib.Ieee.Bits.{is-true}
 use lib.Ieee.Order.{round-mono}
 use lib.Ieee.Scale.{finite, round-same}
 use Rattle.meaning.specs.Scalar.{zero64, one64}
-use Rattle.meaning.specs.Refusals.{firstOf}
-use Rattle.meaning.proofs.Order.{le-left, eq-refl, eq-sym, eq-le, le-not-lt, lt-not-le, le-lt-trans, lt-le-trans}
-use Rattle.knots.specs.Rules.{knot, unfit, unlike, knotRules}
+use Rattle.refusal.proofs.Rows.{Passed}
+use Rattle.knots.specs.declared.Form.the-variants.{Control}
+use Rattle.meaning.proofs.Order.{le-left, eq-refl, le-lt-trans, lt-le-trans}
+use Rattle.knots.specs.Rules.{knot, knotRules}
 use Rattle.uniform.specs.Uniform.{quotient, uniformAt, uniformOf}
-use Rattle.knots.specs.Repeat.{repeats}
 use Rattle.meaning.proofs.Tests.{by-two, no}
-use Rattle.meaning.proofs.Searching.{found-none}
 use Rattle.meaning.proofs.Filling.{length-listed, at-listed}
-use Rattle.knots.proofs.Accepted.{accepts}
+use Rattle.knots.proofs.Passing.{rising-passes}
 
 -- ---- values by their fractions
 
@@ -154,11 +153,10 @@ module _ (n : ℕ) (f : 4 ≤ n) (r : n ≤ 66) where
   apart : (i j : ℕ) → j < n + 4 → step i < step j → i < n + 4 → lt (knot knots i) (knot knots j) ≡ true
   apart i j l h k = rw (knot-is i k, knot-is j l) (part-lt (n - 3) S R (step i) (step j) h (omega arith))
 
-  alike : (i j : ℕ) → i < n + 4 → j < n + 4 → step i ≡ step j → unlike knots j i ≡ false
-  unfolding ne
+  alike : (i j : ℕ) → i < n + 4 → j < n + 4 → step i ≡ step j → eq (knot knots i) (knot knots j) ≡ true
   alike i j h l e =
       let q : knot knots i ≡ knot knots j = knot-is i h ∙ ap (part (n - 3) S R) e ∙ sym (knot-is j l) in
-      rw q (ap not (eq-refl _ (le-left _ _ (rises j j (le-refl j) l))))
+      rw q (eq-refl _ (le-left _ _ (rises j j (le-refl j) l)))
 
   first-knot : knot knots 0 ≡ zero64
   first-knot = let e : step 0 ≡ 0 = omega arith in knot-is 0 (omega arith) ∙ ap (part (n - 3) S R) e ∙ first-is (n - 3) S R
@@ -166,25 +164,12 @@ module _ (n : ℕ) (f : 4 ≤ n) (r : n ≤ 66) where
   last-knot : knot knots (n + 3) ≡ one64
   last-knot = let e : step (n + 3) ≡ n - 3 = omega arith in knot-is (n + 3) (omega arith) ∙ ap (part (n - 3) S R) e ∙ last-is (n - 3) S R
 
-  fit : (i : ℕ) → i < n + 4 → unfit knots i ≡ false
-  fit i h =
-      let a : finite (knot knots i) ≡ true = fine (knot knots i) (rw first-knot at (rises 0 i (omega arith) h)) (rw last-knot at (rises i (n + 3) (omega arith) (omega arith))) in
-      let b : lt (knot knots i) (knot knots (i - 1)) ≡ false = le-not-lt _ _ (rises (i - 1) i (omega arith) h) in
-      rw (a, b) (and-false (ltb 0 i))
-
-  -- the third knot after one is another
-  differs : (i : ℕ) → 1 ≤ i → i < n → repeats knots i ≡ false
-  differs i g l =
-      by-two (repeats knots i)
-      (λ e. no (sym (lt-not-le _ _ (apart i (i + 3) (omega arith) (omega arith) (omega arith))) ∙ eq-le _ _ (eq-sym _ _ e)))
-      (λ e. e)
-
-  pub uniform-passes : firstOf (knotRules n false true (take (n + 4) (uniformOf n))) ≡ 0
+  pub uniform-passes : Passed (knotRules Control n true (take (n + 4) (uniformOf n)))
   unfolding knots
   uniform-passes =
-      accepts knots n f r long
-      (found-none (unfit knots) 0 (length knots) (λ i g l. fit i (omega (arith, long))))
-      (found-none (unlike knots 0) 0 4 (λ i g l. alike i 0 (omega arith) (omega arith) (omega arith)))
-      (found-none (unlike knots (n + 3)) n (n + 4) (λ i g l. alike i (n + 3) l (omega arith) (omega arith)))
-      (lt-not-le _ _ (apart 0 (n + 3) (omega arith) (omega arith) (omega arith)))
-      (found-none (repeats knots) 1 n differs)
+      rising-passes knots n f r long
+      (λ i l. fine (knot knots i) (rw first-knot at (rises 0 i (omega arith) l)) (rw last-knot at (rises i (n + 3) (omega arith) (omega arith))))
+      (λ i l. rises i (i + 1) (omega arith) (omega arith))
+      (λ i l. alike i 0 (omega arith) (omega arith) (omega arith))
+      (λ i g l. alike i (n + 3) l (omega arith) (omega arith))
+      (λ i g l. apart i (i + 1) (omega arith) (omega arith) (omega arith))

@@ -1,4 +1,4 @@
--- The uniform knots of n control points. Document 01, "Uniform knots", decides: four 0, then i/(n-3) for i = 1 to n-4, then four 1; the
+-- The uniform knots of n control points. docs/RULES.md, "Uniform knots", decides: four 0, then i/(n-3) for i = 1 to n-4, then four 1; the
 -- entries past those are +0.0, and so are all of them where the record has no room for n or n is below 4.
 use mathlib.Core.Bool.{_&&_, cond}
 use mathlib.Core.List.{List}

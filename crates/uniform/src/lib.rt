@@ -23,7 +23,7 @@ fn uniform_at(n: usize, j: usize) -> f64
 }
 
 // The uniform knots for n control points, all +0.0 where no curve has so many.
-// Corresponds to 000 Curve::new.
+// Corresponds to spline.rs: Curve::new.
 pub fn uniform(n: usize) -> [f64; 70]
     ensures { λ r. ⌜ r ≡ uniformOf n ⌝ }
 {

@@ -5,23 +5,8 @@ use borrow.Author.Needs.{needs}
 use Rattle.basis_partials.proofs.basis.Statement.{statement}
 use Rattle.basis_partials.proofs.basis.Tie as tie
 
-triangle-of-requires : tie.Need-triangle-of-requires
-triangle-of-requires c κs = search needs
-
-values-of-requires : tie.Need-values-of-requires
-values-of-requires c κs = search needs
-
 returns : tie.Need-returns
 returns c = derivatives-none dual _ 2 _ _ (search needs) (c .before .before .triangle-of .ensures) (c .before .values-of .ensures)
-
-orders-of-requires : tie.Need-orders-of-requires
-orders-of-requires c κs = search needs
-
-functions-of-requires : tie.Need-functions-of-requires
-functions-of-requires c κs = search needs
-
-scaled-by-requires : tie.Need-scaled-by-requires
-scaled-by-requires c κs = search needs
 
 returns-2 : tie.Need-returns-2
 returns-2 c =
@@ -32,11 +17,4 @@ returns-2 c =
 pub basis-spec : {M : Type 1} → statement M
 basis-spec =
     tie.close
-    (tie.spec
-    triangle-of-requires
-    values-of-requires
-    returns
-    orders-of-requires
-    functions-of-requires
-    scaled-by-requires
-    returns-2)
+    (tie.spec (search needs) (search needs) returns (search needs) (search needs) (search needs) returns-2)

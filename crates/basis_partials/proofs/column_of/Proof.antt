@@ -20,33 +20,6 @@ cst-requires c κs = search needs
 loop-holds : tie.Need-loop-holds Inv-loop μ-loop
 loop-holds c = first (search needs)
 
-add-cell-of : tie.Need-add-cell-of Inv-loop μ-loop
-add-cell-of c = search needs
-
-mul-cell-of : tie.Need-mul-cell-of Inv-loop μ-loop
-mul-cell-of c = search needs
-
-array-copy-out-cell-of : tie.Need-array-copy-out-cell-of Inv-loop μ-loop
-array-copy-out-cell-of c = search needs
-
-sub-cell-of : tie.Need-sub-cell-of Inv-loop μ-loop
-sub-cell-of c = search needs
-
-mul-cell-of-2 : tie.Need-mul-cell-of-2 Inv-loop μ-loop
-mul-cell-of-2 c = search needs
-
-array-copy-out-cell-of-2 : tie.Need-array-copy-out-cell-of-2 Inv-loop μ-loop
-array-copy-out-cell-of-2 c = search needs
-
-sub-cell-of-2 : tie.Need-sub-cell-of-2 Inv-loop μ-loop
-sub-cell-of-2 c = search needs
-
-mul-cell-of-3 : tie.Need-mul-cell-of-3 Inv-loop μ-loop
-mul-cell-of-3 c = search needs
-
-mul-cell-of-4 : tie.Need-mul-cell-of-4 Inv-loop μ-loop
-mul-cell-of-4 c = search needs
-
 index-1-cell-of : tie.Need-index-1-cell-of Inv-loop μ-loop
 index-1-cell-of c = search needs
 
@@ -56,23 +29,11 @@ index-2-cell-of c = search needs
 cell-of-requires : tie.Need-cell-of-requires Inv-loop μ-loop
 cell-of-requires c κs = search needs
 
-mul-gap : tie.Need-mul-gap Inv-loop μ-loop
-mul-gap c = search needs
-
-mul-gap-2 : tie.Need-mul-gap-2 Inv-loop μ-loop
-mul-gap-2 c = search needs
-
 index-1-gap : tie.Need-index-1-gap Inv-loop μ-loop
 index-1-gap c = search needs
 
 index-2-gap : tie.Need-index-2-gap Inv-loop μ-loop
 index-2-gap c = search needs
-
-mul-value : tie.Need-mul-value Inv-loop μ-loop
-mul-value c = search needs
-
-mul-value-2 : tie.Need-mul-value-2 Inv-loop μ-loop
-mul-value-2 c = search needs
 
 index-1-value : tie.Need-index-1-value Inv-loop μ-loop
 index-1-value c = search needs
@@ -80,20 +41,11 @@ index-1-value c = search needs
 index-2-value : tie.Need-index-2-value Inv-loop μ-loop
 index-2-value c = search needs
 
-add-r : tie.Need-add-r Inv-loop μ-loop
-add-r c = search needs
-
 loop-less : tie.Need-loop-less Inv-loop μ-loop
 loop-less c = search needs
 
 loop-again : tie.Need-loop-again Inv-loop μ-loop
 loop-again c = next (c .before .before .before .before .before .before .before .before .loop .inv) (c .before .before .before .before .before .before .before .loop-test .taken) (column-turn dual _ _ _ _ _ (c .before .before .before .cell-of .ensures))
-
-mul-saved : tie.Need-mul-saved Inv-loop μ-loop
-mul-saved c = search needs
-
-mul-saved-2 : tie.Need-mul-saved-2 Inv-loop μ-loop
-mul-saved-2 c = search needs
 
 index-1-saved : tie.Need-index-1-saved Inv-loop μ-loop
 index-1-saved c = search needs
@@ -109,36 +61,8 @@ returns c =
 pub column-of-spec : {M : Type 1} → statement M
 column-of-spec =
     tie.close
-    (tie.spec
-    Inv-loop
-    μ-loop
-    cst-requires
-    loop-holds
-    add-cell-of
-    mul-cell-of
-    array-copy-out-cell-of
-    sub-cell-of
-    mul-cell-of-2
-    array-copy-out-cell-of-2
-    sub-cell-of-2
-    mul-cell-of-3
-    mul-cell-of-4
-    index-1-cell-of
-    index-2-cell-of
-    cell-of-requires
-    mul-gap
-    mul-gap-2
-    index-1-gap
-    index-2-gap
-    mul-value
-    mul-value-2
-    index-1-value
-    index-2-value
-    add-r
-    loop-less
-    loop-again
-    mul-saved
-    mul-saved-2
-    index-1-saved
-    index-2-saved
+    (tie.spec Inv-loop μ-loop cst-requires loop-holds (search needs) (search needs) (search needs) (search needs)
+    (search needs) (search needs) (search needs) (search needs) (search needs) index-1-cell-of index-2-cell-of
+    cell-of-requires (search needs) (search needs) index-1-gap index-2-gap (search needs) (search needs) index-1-value
+    index-2-value (search needs) loop-less loop-again (search needs) (search needs) index-1-saved index-2-saved
     returns)

@@ -5,18 +5,6 @@ use borrow.Author.Needs.{needs}
 use Rattle.basis_partials.proofs.order_of.Statement.{statement}
 use Rattle.basis_partials.proofs.order_of.Tie as tie
 
-cst-requires : tie.Need-cst-requires
-cst-requires c κs = search needs
-
-first-coef-requires : tie.Need-first-coef-requires
-first-coef-requires c κs = search needs
-
-mid-coefs-requires : tie.Need-mid-coefs-requires
-mid-coefs-requires c κs = search needs
-
-last-coef-requires : tie.Need-last-coef-requires
-last-coef-requires c κs = search needs
-
 returns : tie.Need-returns
 returns c =
     let first = rw (c .before .before .before .before .before .before .cst .ensures) at (c .before .before .before .before .before .first-coef .ensures) in
@@ -25,4 +13,4 @@ returns c =
 pub order-of-spec : {M : Type 1} → statement M
 order-of-spec =
     tie.close
-    (tie.spec cst-requires first-coef-requires mid-coefs-requires last-coef-requires returns)
+    (tie.spec (search needs) (search needs) (search needs) (search needs) returns)

@@ -3,14 +3,8 @@ use borrow.Author.Needs.{needs}
 use Rattle.basis_partials.proofs.start_coefs.Statement.{statement}
 use Rattle.basis_partials.proofs.start_coefs.Tie as tie
 
-cst-requires : tie.Need-cst-requires
-cst-requires c κs = search needs
-
-cst-requires-2 : tie.Need-cst-requires-2
-cst-requires-2 c κs = search needs
-
 returns : tie.Need-returns
 returns c = rw (c .cst2 .ensures, c .before .cst .ensures)
 
 pub start-coefs-spec : {M : Type 1} → statement M
-start-coefs-spec = tie.close (tie.spec cst-requires cst-requires-2 returns)
+start-coefs-spec = tie.close (tie.spec (search needs) (search needs) returns)

@@ -15,35 +15,8 @@ Inv-loop ndu ders₀ j₀ ders j = At 0 4 (λ i d. put2 d 0 i (at2 dual ndu i 3)
 abbrev μ-loop : tie.MeasureT-loop
 μ-loop ndu ders₀ j₀ ders j = 4 - j
 
-cst-requires : tie.Need-cst-requires Inv-loop μ-loop
-cst-requires c κs = search needs
-
 loop-holds : tie.Need-loop-holds Inv-loop μ-loop
 loop-holds c = first (search needs)
-
-mul-ders : tie.Need-mul-ders Inv-loop μ-loop
-mul-ders c = search needs
-
-index-1-ders : tie.Need-index-1-ders Inv-loop μ-loop
-index-1-ders c = search needs
-
-index-2-ders : tie.Need-index-2-ders Inv-loop μ-loop
-index-2-ders c = search needs
-
-mul-t16 : tie.Need-mul-t16 Inv-loop μ-loop
-mul-t16 c = search needs
-
-index-1-ders-2 : tie.Need-index-1-ders-2 Inv-loop μ-loop
-index-1-ders-2 c = search needs
-
-index-2-ders-2 : tie.Need-index-2-ders-2 Inv-loop μ-loop
-index-2-ders-2 c = search needs
-
-add-j : tie.Need-add-j Inv-loop μ-loop
-add-j c = search needs
-
-loop-less : tie.Need-loop-less Inv-loop μ-loop
-loop-less c = search needs
 
 loop-again : tie.Need-loop-again Inv-loop μ-loop
 loop-again c = next (c .before .before .loop .inv) (search needs) refl
@@ -55,18 +28,5 @@ returns c = rw (c .before .before .cst .ensures) at (last (c .before .loop .inv)
 pub values-of-spec : {M : Type 1} → statement M
 values-of-spec =
     tie.close
-    (tie.spec
-    Inv-loop
-    μ-loop
-    cst-requires
-    loop-holds
-    mul-ders
-    index-1-ders
-    index-2-ders
-    mul-t16
-    index-1-ders-2
-    index-2-ders-2
-    add-j
-    loop-less
-    loop-again
-    returns)
+    (tie.spec Inv-loop μ-loop (search needs) loop-holds (search needs) (search needs) (search needs) (search needs)
+    (search needs) (search needs) (search needs) (search needs) loop-again returns)

@@ -14,18 +14,9 @@ returns-2 : tie.Need-returns-2
 unfolding pasted
 returns-2 c = simp (le-leb _ _ (c .before .if1 .left), lt-leb _ _ (c .if2 .taken))
 
-sub-if3 : tie.Need-sub-if3
-sub-if3 c = search needs
-
 returns-3 : tie.Need-returns-3
 unfolding pasted
 returns-3 c = simp (le-leb _ _ (c .before .before .if1 .left), le-leb _ _ (c .before .if2 .left), lt-leb _ _ (c .if3 .taken))
-
-copy-requires : tie.Need-copy-requires
-copy-requires c κs = search needs
-
-same-length : tie.Need-same-length
-same-length c = search needs
 
 returns-4 : tie.Need-returns-4
 unfolding pasted
@@ -36,4 +27,4 @@ returns-4 c =
 
 pub put-spec : {M : Type 1} → statement M
 put-spec =
-    tie.close (tie.spec returns returns-2 sub-if3 returns-3 copy-requires same-length returns-4)
+    tie.close (tie.spec returns returns-2 (search needs) returns-3 (search needs) (search needs) returns-4)

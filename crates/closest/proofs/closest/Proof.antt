@@ -1,25 +1,34 @@
--- `closest::closest` meets its contract: the rules of the record, then the search.
+-- `closest::closest` meets its contract: the rules of the record, then the answer.
 use mathlib.Core.Path.{sym, _∙_}
-use Rattle.curve.specs.Record.{recordRules}
-use Rattle.curve.proofs.Trusted.{numbered-record, trusted}
-use Rattle.closest.proofs.Answers.{refused, after}
 use borrow.Author.Needs.{needs}
+use Rattle.refusal.proofs.Rows.{number-of}
+use Rattle.outcome.proofs.Doors.{tells, refused-told, after-told}
+use Rattle.shape.proofs.Trusted.{numbered-shape, trusted}
+use Rattle.curve.specs.Record.{byRecord}
+use Rattle.closest.specs.Search.{closestAnswer}
 use Rattle.closest.proofs.closest.Statement.{statement}
 use Rattle.closest.proofs.closest.Tie as tie
 
-recheck-requires : tie.Need-recheck-requires
-recheck-requires c κs = search needs
+abbrev start-of : tie.Else1 → tie.Start
+start-of c = c .before .before .before .before .before .before .before
 
 returns : tie.Need-returns
-returns c = refused (recordRules (c .before .before .before .args .c)) _ (c .before .before .recheck .ensures) (c .if1 .taken)
+unfolding closestAnswer
+returns c = tells (refused-told _ _ (c .before .before .check .ensures) (c .if1 .taken))
 
 search-requires : tie.Need-search-requires
-search-requires c κs = trusted _ (sym (c .before .before .recheck .ensures) ∙ c .if1 .left)
+search-requires c κs =
+    let t = c .before .before .before .before in
+    trusted _ (byRecord (start-of t .args .t1) .shape) (number-of (sym (t .before .before .check .ensures)) ∙ t .if1 .left)
 
 returns-2 : tie.Need-returns-2
+unfolding closestAnswer
 returns-2 c =
-    let t = c .before in
-    after (recordRules (t .before .before .before .args .c)) (numbered-record _) (sym (t .before .before .recheck .ensures) ∙ t .if1 .left) (c .search .ensures)
+    let t = c .before .before .before .before .before in
+    tells
+    (after-told (byRecord (start-of t .args .t1) .rules) (numbered-shape _ _) (number-of (sym (t .before .before .check .ensures)) ∙ t .if1 .left)
+    (record { is = c .search .ensures }))
 
 pub closest-spec : {M : Type 1} → statement M
-closest-spec = tie.close (tie.spec recheck-requires returns search-requires returns-2)
+closest-spec =
+    tie.close (tie.spec (search needs) returns search-requires returns-2)

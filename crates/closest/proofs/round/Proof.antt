@@ -2,7 +2,7 @@
 use denote.Ref.{now}
 use lib.Ieee.{Float}
 use Rattle.plane.specs.View.{view}
-use Rattle.evaluate.specs.Point.{Shape}
+use Rattle.shape.specs.Shape.{Shape}
 use Rattle.closest.proofs.Steps.{no-descent, arrived, moved}
 use borrow.Author.Needs.{needs}
 use Rattle.closest.proofs.round.Statement.{statement}
@@ -20,33 +20,12 @@ returns c =
     let a = s .args in
     no-descent (shape s) (view (a .p)) (a .s) (c .before .before .slope-at .ensures) (c .if1 .taken)
 
-element-copy-out-clamp : tie.Need-element-copy-out-clamp
-element-copy-out-clamp c = search needs
-
-add-clamp : tie.Need-add-clamp
-add-clamp c = search needs
-
-mul-clamp : tie.Need-mul-clamp
-mul-clamp c = search needs
-
-element-copy-out-clamp-2 : tie.Need-element-copy-out-clamp-2
-element-copy-out-clamp-2 c = search needs
-
-clamp-requires : tie.Need-clamp-requires
-clamp-requires c κs = search needs
-
-size-requires : tie.Need-size-requires
-size-requires c κs = search needs
-
 returns-2 : tie.Need-returns-2
 returns-2 c =
     let f = c .before .before .before .before .before .before in
     let s = f .before .before .before in
     let a = s .args in
     arrived (shape s) (view (a .p)) (a .s) (f .before .before .slope-at .ensures) (f .if1 .left) (c .before .before .clamp .ensures) (c .before .size .ensures) (c .if2 .taken)
-
-sub-t15 : tie.Need-sub-t15
-sub-t15 c = search needs
 
 returns-3 : tie.Need-returns-3
 returns-3 c =
@@ -58,15 +37,5 @@ returns-3 c =
 pub round-spec : {M : Type 1} → statement M
 round-spec =
     tie.close
-    (tie.spec
-    slope-at-requires
-    returns
-    element-copy-out-clamp
-    add-clamp
-    mul-clamp
-    element-copy-out-clamp-2
-    clamp-requires
-    size-requires
-    returns-2
-    sub-t15
-    returns-3)
+    (tie.spec slope-at-requires returns (search needs) (search needs) (search needs) (search needs) (search needs)
+    (search needs) returns-2 (search needs) returns-3)

@@ -8,24 +8,6 @@ use borrow.Author.Needs.{needs}
 use Rattle.closest.proofs.sample.Statement.{statement}
 use Rattle.closest.proofs.sample.Tie as tie
 
-orders-requires : tie.Need-orders-requires
-orders-requires c κs = search needs
-
-array-read-t15 : tie.Need-array-read-t15
-array-read-t15 c = search needs
-
-array-read-t18 : tie.Need-array-read-t18
-array-read-t18 c = search needs
-
-distance-requires : tie.Need-distance-requires
-distance-requires c κs = search needs
-
-is-finite-requires : tie.Need-is-finite-requires
-is-finite-requires c κs = search needs
-
-both-requires : tie.Need-both-requires
-both-requires c κs = search needs
-
 -- every distance so far is finite, and this one
 abbrev start-of : tie.After-both → tie.Start
 start-of c = c .before .before .before .before
@@ -48,12 +30,5 @@ returns-2 c =
 pub sample-spec : {M : Type 1} → statement M
 sample-spec =
     tie.close
-    (tie.spec
-    orders-requires
-    array-read-t15
-    array-read-t18
-    distance-requires
-    is-finite-requires
-    both-requires
-    returns
+    (tie.spec (search needs) (search needs) (search needs) (search needs) (search needs) (search needs) returns
     returns-2)

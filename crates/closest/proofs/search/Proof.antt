@@ -1,72 +1,66 @@
 -- `closest::search` meets its contract: the tests in the order of the table.
-use Rattle.plane.specs.View.{view}
-use Rattle.curve.specs.Record.{shapeOf}
-use Rattle.closest.proofs.Judged.{wild-x, wild-y, wild-sample, lost, found}
 use borrow.Author.Needs.{needs}
+use denote.Ref.{now}
+use lib.Ieee.{Float}
+use Rattle.plane.specs.View.{view}
+use Rattle.shape.specs.Shape.{Shape}
+use Rattle.closest.specs.Search.{closestAnswer}
+use Rattle.closest.proofs.Judged.{wild-x, wild-y, wild-sample, lost, found}
 use Rattle.closest.proofs.search.Statement.{statement}
 use Rattle.closest.proofs.search.Tie as tie
 
-is-finite-requires : tie.Need-is-finite-requires
-is-finite-requires c κs = search needs
+-- the curve that is searched
+abbrev shape-of : tie.After-is-finite → Shape Float
+shape-of c = let a = c .before .args in record { n = a .n; xs = now (a .xs); ys = now (a .ys); knots = now (a .u) }
 
 returns : tie.Need-returns
-returns c =
-    let a = c .before .before .args in
-    wild-x (shapeOf (a .t1)) (view (a .p)) (c .before .is-finite .ensures) (c .if1 .taken)
-
-is-finite-requires-2 : tie.Need-is-finite-requires-2
-is-finite-requires-2 c κs = search needs
+unfolding closestAnswer
+returns c = let x = c .before .before in wild-x (shape-of x) (view (x .before .args .p)) (x .is-finite .ensures) (c .before .if1 .taken) (c .by .ensures)
 
 returns-2 : tie.Need-returns-2
+unfolding closestAnswer
 returns-2 c =
-    let x = c .before .before in
-    let a = x .before .before .args in
-    wild-y (shapeOf (a .t1)) (view (a .p)) (x .before .is-finite .ensures) (x .if1 .left) (c .before .is-finite2 .ensures) (c .if2 .taken)
+    let y = c .before .before in
+    let x = y .before .before in
+    wild-y (shape-of x) (view (x .before .args .p)) (x .is-finite .ensures) (y .before .if1 .left) (y .is-finite2 .ensures) (c .before .if2 .taken) (c .by2 .ensures)
 
 sample-all-requires : tie.Need-sample-all-requires
 sample-all-requires c κs = search needs
 
 returns-3 : tie.Need-returns-3
+unfolding closestAnswer
 returns-3 c =
-    let s = c .before .before in
-    let y = s .before .before .before .before .before in
+    let s = c .before .before .before in
+    let y = s .before .before in
     let x = y .before .before in
-    let a = x .before .before .args in
-    wild-sample (shapeOf (a .t1)) (view (a .p)) (x .before .is-finite .ensures) (x .if1 .left) (y .before .is-finite2 .ensures) (y .if2 .left) (s .sample-all .ensures) (c .if3 .taken)
+    wild-sample (shape-of x) (view (x .before .args .p)) (x .is-finite .ensures) (y .before .if1 .left) (y .is-finite2 .ensures) (s .before .if2 .left)
+    (s .sample-all .ensures) (c .before .if3 .taken) (c .by3 .ensures)
 
 newton-requires : tie.Need-newton-requires
 newton-requires c κs = search needs
 
 returns-4 : tie.Need-returns-4
+unfolding closestAnswer
 returns-4 c =
-    let f = c .before .before .before .before .before .before in
+    let f = c .before .before .before in
     let s = f .before .before in
-    let y = s .before .before .before .before .before in
+    let y = s .before .before in
     let x = y .before .before in
-    let a = x .before .before .args in
-    lost (shapeOf (a .t1)) (view (a .p)) (x .before .is-finite .ensures) (x .if1 .left) (y .before .is-finite2 .ensures) (y .if2 .left) (s .sample-all .ensures) (f .if3 .left)
-    (c .before .newton .ensures) (c .if4 .taken)
+    lost (shape-of x) (view (x .before .args .p)) (x .is-finite .ensures) (y .before .if1 .left) (y .is-finite2 .ensures) (s .before .if2 .left)
+    (s .sample-all .ensures) (f .if3 .left) (c .before .before .newton .ensures) (c .before .if4 .taken) (c .by4 .ensures)
 
 returns-5 : tie.Need-returns-5
+unfolding closestAnswer
 returns-5 c =
-    let f = c .before .before .before .before .before .before in
+    let f = c .before .before in
     let s = f .before .before in
-    let y = s .before .before .before .before .before in
+    let y = s .before .before in
     let x = y .before .before in
-    let a = x .before .before .args in
-    found (shapeOf (a .t1)) (view (a .p)) (x .before .is-finite .ensures) (x .if1 .left) (y .before .is-finite2 .ensures) (y .if2 .left) (s .sample-all .ensures) (f .if3 .left)
-    (c .before .newton .ensures) (c .if4 .left)
+    found (shape-of x) (view (x .before .args .p)) (x .is-finite .ensures) (y .before .if1 .left) (y .is-finite2 .ensures) (s .before .if2 .left)
+    (s .sample-all .ensures) (f .if3 .left) (c .before .newton .ensures) (c .if4 .left)
 
 pub search-spec : {M : Type 1} → statement M
 search-spec =
     tie.close
-    (tie.spec
-    is-finite-requires
-    returns
-    is-finite-requires-2
-    returns-2
-    sample-all-requires
-    returns-3
-    newton-requires
-    returns-4
-    returns-5)
+    (tie.spec (search needs) (search needs) returns (search needs) (search needs) returns-2 sample-all-requires
+    (search needs) returns-3 newton-requires (search needs) returns-4 returns-5)

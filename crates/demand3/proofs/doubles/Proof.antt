@@ -4,12 +4,6 @@ use borrow.Author.Needs.{needs}
 use Rattle.demand3.proofs.doubles.Statement.{statement}
 use Rattle.demand3.proofs.doubles.Tie as tie
 
-shared-slice-read-result : tie.Need-shared-slice-read-result
-shared-slice-read-result c = search needs
-
-shared-slice-read-result-2 : tie.Need-shared-slice-read-result-2
-shared-slice-read-result-2 c = search needs
-
 returns : tie.Need-returns
 returns c = λ i h. c .shared-slice-known2 .given i
 
@@ -18,4 +12,4 @@ returns-2 c = λ i h. absurd (omega arith)
 
 pub doubles-spec : {M : Type 1} → statement M
 doubles-spec =
-    tie.close (tie.spec shared-slice-read-result shared-slice-read-result-2 returns returns-2)
+    tie.close (tie.spec (search needs) (search needs) returns returns-2)

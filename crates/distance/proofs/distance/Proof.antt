@@ -8,15 +8,6 @@ use borrow.Author.Needs.{needs}
 use Rattle.distance.proofs.distance.Statement.{statement}
 use Rattle.distance.proofs.distance.Tie as tie
 
-sub-requires : tie.Need-sub-requires
-sub-requires c κs = search needs
-
-dot-requires : tie.Need-dot-requires
-dot-requires c κs = search needs
-
-root-requires : tie.Need-root-requires
-root-requires c κs = search needs
-
 returns : tie.Need-returns
 unfolding distanceOf
 returns c =
@@ -24,4 +15,4 @@ returns c =
     c .root .ensures ∙ ap rootOf (c .before .dot .ensures ∙ (λ i. dotV plain (d i) (d i)))
 
 pub distance-spec : {M : Type 1} → statement M
-distance-spec = tie.close (tie.spec sub-requires dot-requires root-requires returns)
+distance-spec = tie.close (tie.spec (search needs) (search needs) (search needs) returns)

@@ -9,30 +9,6 @@ use borrow.Author.Needs.{needs}
 use Rattle.evaluate.proofs.beyond.Statement.{statement}
 use Rattle.evaluate.proofs.beyond.Tie as tie
 
-inside-requires : tie.Need-inside-requires
-inside-requires c κs = search needs
-
-array-read-scale : tie.Need-array-read-scale
-array-read-scale c = search needs
-
-array-read-t17 : tie.Need-array-read-t17
-array-read-t17 c = search needs
-
-array-read-scale-2 : tie.Need-array-read-scale-2
-array-read-scale-2 c = search needs
-
-array-read-t17-2 : tie.Need-array-read-t17-2
-array-read-t17-2 c = search needs
-
-scale-requires : tie.Need-scale-requires
-scale-requires c κs = search needs
-
-add-requires : tie.Need-add-requires
-add-requires c κs = search needs
-
-straight-requires : tie.Need-straight-requires
-straight-requires c κs = search needs
-
 returns : tie.Need-returns
 returns c =
     let room = c .before .before .before .inside .ensures in
@@ -44,13 +20,5 @@ returns c =
 pub beyond-spec : {M : Type 1} → statement M
 beyond-spec =
     tie.close
-    (tie.spec
-    inside-requires
-    array-read-scale
-    array-read-t17
-    array-read-scale-2
-    array-read-t17-2
-    scale-requires
-    add-requires
-    straight-requires
-    returns)
+    (tie.spec (search needs) (search needs) (search needs) (search needs) (search needs) (search needs) (search needs)
+    (search needs) returns)

@@ -5,18 +5,9 @@ use borrow.Author.Needs.{needs}
 use Rattle.evaluate.proofs.inside.Statement.{statement}
 use Rattle.evaluate.proofs.inside.Tie as tie
 
-span-requires : tie.Need-span-requires
-span-requires c κs = search needs
-
-basis-requires : tie.Need-basis-requires
-basis-requires c κs = search needs
-
-combine-requires : tie.Need-combine-requires
-combine-requires c κs = search needs
-
 returns : tie.Need-returns
 unfolding insideOf
 returns c = c .combine .ensures ∙ rw (c .before .basis .ensures, c .before .before .span .ensures .0)
 
 pub inside-spec : {M : Type 1} → statement M
-inside-spec = tie.close (tie.spec span-requires basis-requires combine-requires returns)
+inside-spec = tie.close (tie.spec (search needs) (search needs) (search needs) returns)

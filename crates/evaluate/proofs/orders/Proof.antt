@@ -15,37 +15,16 @@ returns-2 c = too-many plain _ _ _ _ (c .before .if1 .left) (c .if2 .taken)
 returns-3 : tie.Need-returns-3
 returns-3 c = too-high plain _ _ _ _ (c .before .before .if1 .left) (c .before .if2 .left) (c .if3 .taken)
 
-element-copy-out-lo : tie.Need-element-copy-out-lo
-element-copy-out-lo c = search needs
-
-add-hi : tie.Need-add-hi
-add-hi c = search needs
-
-mul-hi : tie.Need-mul-hi
-mul-hi c = search needs
-
-element-copy-out-hi : tie.Need-element-copy-out-hi
-element-copy-out-hi c = search needs
-
-beyond-requires : tie.Need-beyond-requires
-beyond-requires c κs = search needs
-
 returns-4 : tie.Need-returns-4
 returns-4 c =
     let t = c .before .before .before .before in
     c .beyond .ensures ∙ before-domain plain _ _ _ _ (t .before .before .if1 .left) (t .before .if2 .left) (t .if3 .left) (c .before .if4 .taken)
-
-beyond-requires-2 : tie.Need-beyond-requires-2
-beyond-requires-2 c κs = search needs
 
 returns-5 : tie.Need-returns-5
 returns-5 c =
     let t = c .before .before .before .before .before in
     c .beyond2 .ensures
     ∙ past-domain plain _ _ _ _ (t .before .before .if1 .left) (t .before .if2 .left) (t .if3 .left) (c .before .before .if4 .left) (c .before .if5 .taken)
-
-inside-requires : tie.Need-inside-requires
-inside-requires c κs = search needs
 
 returns-6 : tie.Need-returns-6
 returns-6 c =
@@ -56,17 +35,5 @@ returns-6 c =
 pub orders-spec : {M : Type 1} → statement M
 orders-spec =
     tie.close
-    (tie.spec
-    returns
-    returns-2
-    returns-3
-    element-copy-out-lo
-    add-hi
-    mul-hi
-    element-copy-out-hi
-    beyond-requires
-    returns-4
-    beyond-requires-2
-    returns-5
-    inside-requires
-    returns-6)
+    (tie.spec returns returns-2 returns-3 (search needs) (search needs) (search needs) (search needs) (search needs)
+    returns-4 (search needs) returns-5 (search needs) returns-6)

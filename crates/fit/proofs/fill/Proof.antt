@@ -24,23 +24,8 @@ Inv-loop w₀ u p q n fine₀ m r₀ w fine r =
 abbrev μ-loop : tie.MeasureT-loop
 μ-loop w₀ u p q n fine₀ m r₀ w fine r = n + 2 - r
 
-add-m : tie.Need-add-m Inv-loop μ-loop
-add-m c = search needs
-
 loop-holds : tie.Need-loop-holds Inv-loop μ-loop
 loop-holds c = (λ M rest e sh. none-written (found-shaped _ _ _ _) sh e, every-none _, search needs, refl)
-
-fill-at-requires : tie.Need-fill-at-requires Inv-loop μ-loop
-fill-at-requires c κs = search needs
-
-both-requires : tie.Need-both-requires Inv-loop μ-loop
-both-requires c κs = search needs
-
-add-r : tie.Need-add-r Inv-loop μ-loop
-add-r c = search needs
-
-loop-less : tie.Need-loop-less Inv-loop μ-loop
-loop-less c = search needs
 
 loop-again : tie.Need-loop-again Inv-loop μ-loop
 loop-again c =
@@ -55,9 +40,6 @@ loop-again c =
       omega (arith, call .kept),
     )
 
-same-length : tie.Need-same-length Inv-loop μ-loop
-same-length c = search needs
-
 returns : tie.Need-returns Inv-loop μ-loop
 unfolding rowsOk
 returns c =
@@ -69,15 +51,5 @@ returns c =
 pub fill-spec : {M : Type 1} → statement M
 fill-spec =
     tie.close
-    (tie.spec
-    Inv-loop
-    μ-loop
-    add-m
-    loop-holds
-    fill-at-requires
-    both-requires
-    add-r
-    loop-less
-    loop-again
-    same-length
-    returns)
+    (tie.spec Inv-loop μ-loop (search needs) loop-holds (search needs) (search needs) (search needs) (search needs)
+    loop-again (search needs) returns)

@@ -8,12 +8,6 @@ use borrow.Author.Needs.{needs}
 use Rattle.fit.proofs.fill_at.Statement.{statement}
 use Rattle.fit.proofs.fill_at.Tie as tie
 
-add-s : tie.Need-add-s
-add-s c = search needs
-
-add-s-2 : tie.Need-add-s-2
-add-s-2 c = search needs
-
 mul-a : tie.Need-mul-a
 mul-a c = let s = c .before .before in omega (arith, row-le (s .args .r) (s .args .n + 2) (s .args .n + 2 + 2) (s .pre .1))
 
@@ -23,20 +17,8 @@ add-e c = let s = c .before .before in omega (arith, row-le (s .args .r) (s .arg
 mul-system-row : tie.Need-mul-system-row
 mul-system-row c = let s = c .before .before in omega (arith, row-le (s .args .r) (s .args .n + 2) (s .args .n + 2 + 2) (s .pre .1))
 
-sub-system-row : tie.Need-sub-system-row
-sub-system-row c = search needs
-
-part-system-row-start : tie.Need-part-system-row-start
-part-system-row-start c = search needs
-
 part-system-row-end : tie.Need-part-system-row-end
 part-system-row-end c = let s = c .before .before in omega (arith, row-le (s .args .r) (s .args .n + 2) (s .args .n + 2 + 2) (s .pre .1))
-
-system-row-requires : tie.Need-system-row-requires
-system-row-requires c κs = search needs
-
-same-length : tie.Need-same-length
-same-length c = search needs
 
 returns : tie.Need-returns
 returns c =
@@ -47,15 +29,5 @@ returns c =
 pub fill-at-spec : {M : Type 1} → statement M
 fill-at-spec =
     tie.close
-    (tie.spec
-    add-s
-    add-s-2
-    mul-a
-    add-e
-    mul-system-row
-    sub-system-row
-    part-system-row-start
-    part-system-row-end
-    system-row-requires
-    same-length
-    returns)
+    (tie.spec (search needs) (search needs) mul-a add-e mul-system-row (search needs) (search needs)
+    part-system-row-end (search needs) (search needs) returns)

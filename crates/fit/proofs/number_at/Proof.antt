@@ -5,9 +5,6 @@ use borrow.Author.Needs.{needs}
 use Rattle.fit.proofs.number_at.Statement.{statement}
 use Rattle.fit.proofs.number_at.Tie as tie
 
-spread-at-requires : tie.Need-spread-at-requires
-spread-at-requires c κs = search needs
-
 returns : tie.Need-returns
 unfolding withSides
 returns c = rw (lt-ltb _ _ (c .before .if1 .taken)) (c .spread-at .ensures)
@@ -21,4 +18,4 @@ unfolding withSides
 returns-3 c = rw (le-ltb _ _ (c .before .if1 .left), ne-eqb _ _ (c .if2 .left))
 
 pub number-at-spec : {M : Type 1} → statement M
-number-at-spec = tie.close (tie.spec spread-at-requires returns returns-2 returns-3)
+number-at-spec = tie.close (tie.spec (search needs) returns returns-2 returns-3)

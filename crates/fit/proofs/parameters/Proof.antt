@@ -19,35 +19,8 @@ Inv-loop s n p₀ last all sum₀ k₀ p sum k = (1 ≤ k) × (k ≤ n - 1) × (
 abbrev μ-loop : tie.MeasureT-loop
 μ-loop s n p₀ last all sum₀ k₀ p sum k = n - 1 - k
 
-sub-last : tie.Need-sub-last Inv-loop μ-loop
-sub-last c = search needs
-
-total-requires : tie.Need-total-requires Inv-loop μ-loop
-total-requires c κs = search needs
-
 loop-holds : tie.Need-loop-holds Inv-loop μ-loop
 loop-holds c = (search needs, search needs, sum-none plain _, parameters-begin _ _)
-
-sub-sum : tie.Need-sub-sum Inv-loop μ-loop
-sub-sum c = search needs
-
-mul-sum : tie.Need-mul-sum Inv-loop μ-loop
-mul-sum c = search needs
-
-element-copy-out-sum : tie.Need-element-copy-out-sum Inv-loop μ-loop
-element-copy-out-sum c = search needs
-
-mul-p : tie.Need-mul-p Inv-loop μ-loop
-mul-p c = search needs
-
-array-write-p : tie.Need-array-write-p Inv-loop μ-loop
-array-write-p c = search needs
-
-add-k : tie.Need-add-k Inv-loop μ-loop
-add-k c = search needs
-
-loop-less : tie.Need-loop-less Inv-loop μ-loop
-loop-less c = search needs
 
 loop-again : tie.Need-loop-again Inv-loop μ-loop
 loop-again c =
@@ -57,13 +30,9 @@ loop-again c =
     let sum = sum-turn plain st (l .k) (l .sum) (l .inv .0) (l .inv .2) in
     let e : l .k + 1 - 1 ≡ l .k = omega arith in
     let b = c .before .loop-test .taken in
-    (search needs, search needs, rw e sum, filled (l .inv .3) (search needs) ((λ t. plain .over (sum t) (c .before .before .before .total .ensures t)) ∙ parameter-inner plain st (a .n) (l .k) (l .inv .0) b))
-
-mul-p-2 : tie.Need-mul-p-2 Inv-loop μ-loop
-mul-p-2 c = search needs
-
-array-write-p-2 : tie.Need-array-write-p-2 Inv-loop μ-loop
-array-write-p-2 c = search needs
+    let all = c .before .before .before .total .ensures in
+    let new = (λ t. plain .over (sum t) (all t)) ∙ parameter-inner plain st (a .n) (l .k) (l .inv .0) b in
+    (search needs, search needs, rw e sum, filled (l .inv .3) (search needs) new)
 
 returns : tie.Need-returns Inv-loop μ-loop
 returns c =
@@ -76,20 +45,5 @@ returns c =
 pub parameters-spec : {M : Type 1} → statement M
 parameters-spec =
     tie.close
-    (tie.spec
-    Inv-loop
-    μ-loop
-    sub-last
-    total-requires
-    loop-holds
-    sub-sum
-    mul-sum
-    element-copy-out-sum
-    mul-p
-    array-write-p
-    add-k
-    loop-less
-    loop-again
-    mul-p-2
-    array-write-p-2
-    returns)
+    (tie.spec Inv-loop μ-loop (search needs) (search needs) loop-holds (search needs) (search needs) (search needs)
+    (search needs) (search needs) (search needs) (search needs) loop-again (search needs) (search needs) returns)

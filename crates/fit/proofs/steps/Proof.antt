@@ -16,26 +16,8 @@ Inv-loop q n s₀ end k₀ s k = (k ≤ n - 1) × Filled (stepAt plain q) nan 64
 abbrev μ-loop : tie.MeasureT-loop
 μ-loop q n s₀ end k₀ s k = n - 1 - k
 
-sub-end : tie.Need-sub-end Inv-loop μ-loop
-sub-end c = search needs
-
 loop-holds : tie.Need-loop-holds Inv-loop μ-loop
 loop-holds c = (search needs, empty refl)
-
-step-requires : tie.Need-step-requires Inv-loop μ-loop
-step-requires c κs = search needs
-
-mul-s : tie.Need-mul-s Inv-loop μ-loop
-mul-s c = search needs
-
-array-write-s : tie.Need-array-write-s Inv-loop μ-loop
-array-write-s c = search needs
-
-add-k : tie.Need-add-k Inv-loop μ-loop
-add-k c = search needs
-
-loop-less : tie.Need-loop-less Inv-loop μ-loop
-loop-less c = search needs
 
 loop-again : tie.Need-loop-again Inv-loop μ-loop
 loop-again c = (search needs, filled (c .before .before .loop .inv .1) (search needs) (c .step .ensures))
@@ -46,15 +28,5 @@ returns c = let l = c .before .loop in let e : l .k ≡ c .before .before .befor
 pub steps-spec : {M : Type 1} → statement M
 steps-spec =
     tie.close
-    (tie.spec
-    Inv-loop
-    μ-loop
-    sub-end
-    loop-holds
-    step-requires
-    mul-s
-    array-write-s
-    add-k
-    loop-less
-    loop-again
-    returns)
+    (tie.spec Inv-loop μ-loop (search needs) loop-holds (search needs) (search needs) (search needs) (search needs)
+    (search needs) loop-again returns)

@@ -12,16 +12,10 @@ use Rattle.hard_roots.proofs.root_of.Tie as tie
 float-from-bits-root : tie.Need-float-from-bits-root
 float-from-bits-root c = subst T (sym (c .pre)) tt
 
-root-requires : tie.Need-root-requires
-root-requires c κs = search needs
-
 float-to-bits-result : tie.Need-float-to-bits-result
 float-to-bits-result c =
     subst (λ (y : Float). T (not (isNan y))) (sym (c .root .ensures))
     (root-no-nan _ (subst (λ (b : Bool). T (not b)) (nanBits-is binary64 (c .before .args .x)) (subst T (sym (c .before .pre)) tt)))
 
-returns : tie.Need-returns
-returns c = search needs
-
 pub root-of-spec : {M : Type 1} → statement M
-root-of-spec = tie.close (tie.spec float-from-bits-root root-requires float-to-bits-result returns)
+root-of-spec = tie.close (tie.spec float-from-bits-root (search needs) float-to-bits-result (search needs))

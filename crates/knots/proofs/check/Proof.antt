@@ -1,44 +1,41 @@
--- `knots::check` meets its contract: the rows on the handles, then the row on fit points, then the list's.
+-- `knots::check` meets its contract: the rows on the handles, then the row on knots with fit points, then the list's.
+use mathlib.Core.Path.{_∙_}
+use mathlib.Core.Bool.{false}
+use mathlib.Core.List.{[]}
 use borrow.Author.Needs.{needs}
-use mathlib.Core.Path.{sym, _∙_}
-use denote.Ref.{now}
 use borrow.Author.Tests.{not-true, not-false}
-use Rattle.knots.proofs.Refused.{none-given, by-handles, with-fit, room-for}
+use Rattle.knots.proofs.Refused.{check-refused, check-unlisted, check-fit, check-room, check-list}
 use Rattle.knots.proofs.check.Statement.{statement}
 use Rattle.knots.proofs.check.Tie as tie
 
-refused-handles-requires : tie.Need-refused-handles-requires
-refused-handles-requires c κs = search needs
-
 returns : tie.Need-returns
-returns c =
-    let e = c .before .refused-handles .ensures in
-    e ∙ by-handles _ _ _ _ (λ z. c .if1 .taken (e ∙ z))
+returns c = check-refused _ _ _ _ (c .before .before .refused-handles .ensures) (c .if1 .taken)
 
 returns-2 : tie.Need-returns-2
 returns-2 c =
-    let a = c .before .before .before .before .args in
-    rw (not-true (a .given) (c .if2 .taken))
-    (sym (sym (c .before .before .refused-handles .ensures) ∙ c .before .if1 .left) ∙ none-given (a .handles) (a .fit) (now (a .knots)))
-
-returns-3 : tie.Need-returns-3
-returns-3 c =
-    let a = c .before .before .before .before .before .args in
-    let passed = sym (c .before .before .before .refused-handles .ensures) ∙ c .before .before .if1 .left in
-    rw (not-false (a .given) (c .before .if2 .left), c .if3 .taken) (with-fit (a .handles) (now (a .knots)) (rw (c .if3 .taken) at passed))
+    let t = c .before .before in
+    c .by .ensures ∙ check-unlisted _ _ _ _ (t .before .before .refused-handles .ensures) (t .if1 .left) (not-true _ (c .before .if2 .taken))
 
 refused-list-requires : tie.Need-refused-list-requires
 refused-list-requires c κs =
-    let a = c .before .before .before .before .before .args in
-    let passed = sym (c .before .before .before .refused-handles .ensures) ∙ c .before .before .if1 .left in
-    room-for (a .handles) (rw (c .if3 .left) at passed)
+    let t = c .before .before .before in
+    check-room _ _ false [] (t .before .before .refused-handles .ensures) (t .if1 .left) (c .enum-told .given .1)
+
+returns-3 : tie.Need-returns-3
+returns-3 c =
+    let m = c .before in
+    let g = m .before .before in
+    check-list _ _ _ _ (g .before .before .before .refused-handles .ensures) (not-false _ (g .if2 .left)) (m .enum-told .given .1) (c .refused-list .ensures)
 
 returns-4 : tie.Need-returns-4
 returns-4 c =
-    let a = c .before .before .before .before .before .before .args in
-    rw (not-false (a .given) (c .before .before .if2 .left), c .before .if3 .left) (c .refused-list .ensures)
+    let m = c .before in
+    let g = m .before .before in
+    let t = g .before in
+    c .by2 .ensures ∙ check-fit _ _ _ _ (t .before .before .refused-handles .ensures) (t .if1 .left) (not-false _ (g .if2 .left)) (m .enum-told2 .given .1)
 
 pub check-spec : {M : Type 1} → statement M
 check-spec =
     tie.close
-    (tie.spec refused-handles-requires returns returns-2 returns-3 refused-list-requires returns-4)
+    (tie.spec (search needs) returns (search needs) returns-2 (search needs) refused-list-requires (search needs)
+    (search needs) returns-3 returns-4)

@@ -10,35 +10,11 @@ use Rattle.knots.proofs.is_unfit.Tie as tie
 positive : (i : ℕ) → (i ≡ 0 → ⊥) → 0 < i
 positive i h = omega arith
 
-mul-is-finite : tie.Need-mul-is-finite
-mul-is-finite c = search needs
-
-shared-slice-read-is-finite : tie.Need-shared-slice-read-is-finite
-shared-slice-read-is-finite c = search needs
-
-is-finite-requires : tie.Need-is-finite-requires
-is-finite-requires c κs = search needs
-
 returns : tie.Need-returns
 returns c = rw (← c .before .is-finite .ensures, c .if1 .taken)
 
 returns-2 : tie.Need-returns-2
 returns-2 c = rw (← c .before .before .is-finite .ensures, c .before .if1 .left, c .if2 .taken)
-
-mul-result : tie.Need-mul-result
-mul-result c = search needs
-
-shared-slice-read-result : tie.Need-shared-slice-read-result
-shared-slice-read-result c = search needs
-
-sub-result : tie.Need-sub-result
-sub-result c = search needs
-
-mul-result-2 : tie.Need-mul-result-2
-mul-result-2 c = search needs
-
-shared-slice-read-result-2 : tie.Need-shared-slice-read-result-2
-shared-slice-read-result-2 c = search needs
 
 returns-3 : tie.Need-returns-3
 returns-3 c =
@@ -48,15 +24,5 @@ returns-3 c =
 pub is-unfit-spec : {M : Type 1} → statement M
 is-unfit-spec =
     tie.close
-    (tie.spec
-    mul-is-finite
-    shared-slice-read-is-finite
-    is-finite-requires
-    returns
-    returns-2
-    mul-result
-    shared-slice-read-result
-    sub-result
-    mul-result-2
-    shared-slice-read-result-2
-    returns-3)
+    (tie.spec (search needs) (search needs) (search needs) returns returns-2 (search needs) (search needs)
+    (search needs) (search needs) (search needs) returns-3)

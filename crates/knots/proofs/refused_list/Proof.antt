@@ -1,5 +1,6 @@
 -- `knots::refused_list` meets its contract.
 use borrow.Author.Needs.{needs}
+use mathlib.Core.Path.{_∙_}
 use denote.Ref.{now}
 use lib.ListN.{length}
 use Rattle.knots.specs.Rules.{unfit}
@@ -8,20 +9,16 @@ use Rattle.knots.proofs.Refused.{wrong-count, one-unfit}
 use Rattle.knots.proofs.refused_list.Statement.{statement}
 use Rattle.knots.proofs.refused_list.Tie as tie
 
-add-if1 : tie.Need-add-if1
-add-if1 c = search needs
-
 returns : tie.Need-returns
-returns c = wrong-count _ (c .before .before .pre) _ (c .if1 .taken)
-
-first-unfit-requires : tie.Need-first-unfit-requires
-first-unfit-requires c κs = search needs
+returns c = c .by .ensures ∙ wrong-count _ (c .before .before .before .pre) _ (c .before .if1 .taken)
 
 returns-2 : tie.Need-returns-2
 returns-2 c =
-    let s = c .before .before .before .before in
+    let e = c .before in
+    let s = e .before .before .before .before in
     let ks = now (s .args .knots) in
-    one-unfit (s .args .n) (s .pre) ks (c .before .before .if1 .left) (told-some (unfit ks) 0 (length ks) (c .before .first-unfit .ensures) (c .if2 .taken))
+    c .by2 .ensures
+    ∙ one-unfit (s .args .n) (s .pre) ks (e .before .before .if1 .left) (told-some (unfit ks) 0 (length ks) (e .before .first-unfit .ensures) (e .if2 .taken))
 
 refused-ends-requires : tie.Need-refused-ends-requires
 refused-ends-requires c κs =
@@ -30,9 +27,10 @@ refused-ends-requires c κs =
     (s .pre, (c .before .before .if1 .left, told-none (unfit ks) 0 (length ks) (c .before .first-unfit .ensures) (c .if2 .left)))
 
 returns-3 : tie.Need-returns-3
-returns-3 c = search needs
+returns-3 c = c .refused-ends .ensures
 
 pub refused-list-spec : {M : Type 1} → statement M
 refused-list-spec =
     tie.close
-    (tie.spec add-if1 returns first-unfit-requires returns-2 refused-ends-requires returns-3)
+    (tie.spec (search needs) (search needs) returns (search needs) (search needs) returns-2 refused-ends-requires
+    returns-3)

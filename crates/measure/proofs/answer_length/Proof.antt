@@ -1,30 +1,36 @@
 -- `measure::answer_length` meets its contract.
-use mathlib.Core.Path.{ap}
+use mathlib.Core.Path.{_≡_, ap, _∙_}
 use mathlib.Core.List.{[], _∷_}
-use lib.Ieee.{Float}
-use Rattle.measure.specs.Length.{lengthRules}
-use Rattle.answer.proofs.Doors.{delivered-as}
 use borrow.Author.Needs.{needs}
+use borrow.Author.Tests.{le-leb}
+use denote.Ref.{now}
+use lib.Ieee.{Float}
+use lib.Ieee.Scale.{finite}
+use Rattle.meaning.specs.Scalar.{plain}
+use Rattle.outcome.proofs.Doors.{tells, stop-told, pass-told, done-told, not-told}
+use Rattle.refusal.specs.Refusals.{none}
+use Rattle.polygon.specs.Polygon.{lengthOf}
+use Rattle.measure.specs.Measure.{lengthAnswer}
 use Rattle.measure.proofs.answer_length.Statement.{statement}
 use Rattle.measure.proofs.answer_length.Tie as tie
 
-polygon-requires : tie.Need-polygon-requires
-polygon-requires c κs = search needs
-
-slice-aggregate-deliver : tie.Need-slice-aggregate-deliver
-slice-aggregate-deliver c = search needs
-
-deliver-requires : tie.Need-deliver-requires
-deliver-requires c κs = search needs
-
-same-length : tie.Need-same-length
-same-length c = search needs
+-- an accepted curve has at most 66 control points
+length-is : (c : tie.After-length) → let a = c .before .args in c .length .result ≡ lengthOf plain (now (a .xs)) (now (a .ys)) (a .n)
+length-is c = c .length .ensures ∙ rw (le-leb _ _ (c .before .pre .room))
 
 returns : tie.Need-returns
-unfolding lengthRules
-returns c = delivered-as (ap (λ (x : Float). x ∷ []) (c .before .before .before .before .before .polygon .ensures)) (c .before .before .deliver .ensures)
+unfolding lengthAnswer
+returns c =
+    let f = c .before .before in
+    tells (stop-told 14 (c .by .ensures) (not-told (f .is-finite .ensures ∙ ap finite (length-is (f .before))) (c .before .if1 .taken)))
+
+returns-2 : tie.Need-returns-2
+unfolding lengthAnswer
+returns-2 c =
+    let f = c .before in
+    let e = length-is (f .before) in
+    ap (λ (x : Float). record { refusal = none; values = x ∷ [] }) e ∙ tells (pass-told 15 (not-told (f .is-finite .ensures ∙ ap finite e) (c .if1 .left)) done-told)
 
 pub answer-length-spec : {M : Type 1} → statement M
 answer-length-spec =
-    tie.close
-    (tie.spec polygon-requires slice-aggregate-deliver deliver-requires same-length returns)
+    tie.close (tie.spec (search needs) (search needs) (search needs) returns returns-2)

@@ -1,31 +1,34 @@
 -- `measure::length` meets its contract: the rules of the record, then the answer.
 use mathlib.Core.Path.{sym, _∙_}
-use Rattle.curve.specs.Record.{recordRules}
-use Rattle.answer.proofs.Doors.{refused, after}
-use Rattle.curve.proofs.Trusted.{numbered-record, trusted}
 use borrow.Author.Needs.{needs}
+use Rattle.refusal.proofs.Rows.{number-of}
+use Rattle.outcome.proofs.Doors.{tells, refused-told, after-told}
+use Rattle.shape.proofs.Trusted.{numbered-shape, trusted}
+use Rattle.curve.specs.Record.{byRecord}
+use Rattle.measure.specs.Measure.{lengthAnswer}
 use Rattle.measure.proofs.length.Statement.{statement}
 use Rattle.measure.proofs.length.Tie as tie
 
-recheck-requires : tie.Need-recheck-requires
-recheck-requires c κs = search needs
+abbrev start-of : tie.Else1 → tie.Start
+start-of c = c .before .before .before .before .before .before .before
 
 returns : tie.Need-returns
-returns c = refused (recordRules (c .before .before .before .before .args .c)) _ (c .before .before .recheck .ensures) (c .if1 .taken)
+unfolding lengthAnswer
+returns c = tells (refused-told _ _ (c .before .before .check .ensures) (c .if1 .taken))
 
 answer-length-requires : tie.Need-answer-length-requires
 answer-length-requires c κs =
-    let t = c .before in
-    trusted _ (sym (t .before .before .recheck .ensures) ∙ t .if1 .left)
-
-same-length : tie.Need-same-length
-same-length c = search needs
+    let t = c .before .before .before .before in
+    trusted _ (byRecord (start-of t .args .t1) .shape) (number-of (sym (t .before .before .check .ensures)) ∙ t .if1 .left)
 
 returns-2 : tie.Need-returns-2
+unfolding lengthAnswer
 returns-2 c =
-    let t = c .before .before .before .before in
-    after (recordRules (t .before .before .before .before .args .c)) (numbered-record _) (sym (t .before .before .recheck .ensures) ∙ t .if1 .left) (c .before .before .answer-length .ensures)
+    let t = c .before .before .before .before .before in
+    tells
+    (after-told (byRecord (start-of t .args .t1) .rules) (numbered-shape _ _) (number-of (sym (t .before .before .check .ensures)) ∙ t .if1 .left)
+    (record { is = c .answer-length .ensures }))
 
 pub length-spec : {M : Type 1} → statement M
 length-spec =
-    tie.close (tie.spec recheck-requires returns answer-length-requires same-length returns-2)
+    tie.close (tie.spec (search needs) returns answer-length-requires returns-2)

@@ -1,53 +1,40 @@
 -- `measure::length_slices` meets its contract: the rules of the slices, then the answer.
-use mathlib.Core.Path.{_≡_, sym, _∙_}
-use mathlib.Core.Bool.{true, false}
-use mathlib.Core.List.{[], _∷_}
-use denote.Ref.{now}
-use Rattle.meaning.specs.Scalar.{plain}
-use Rattle.curve.specs.Record.{shapeOf}
-use Rattle.measure.specs.Length.{lengthOf, lengthRules}
-use Rattle.curve.specs.Build.{controlCurve, sliceRules}
-use Rattle.answer.proofs.Doors.{refused, after}
-use Rattle.curve.proofs.Curves.{moved}
-use Rattle.curve.proofs.Assembled.{numbered-handles, assembled, assembled-trusted}
+use mathlib.Core.Path.{ap, _∙_}
+use mathlib.Core.Bool.{true}
 use borrow.Author.Needs.{needs}
+use denote.Ref.{now}
+use Rattle.knots.specs.declared.Form.the-variants.{Control}
+use Rattle.outcome.proofs.Doors.{tells, refused-told, after-told}
+use Rattle.shape.specs.Rules.{handleRules}
+use Rattle.shape.specs.Trusting.{trusting}
+use Rattle.shape.proofs.Handles.{numbered-handles}
+use Rattle.curve.specs.declared.Curve.{Curve}
+use Rattle.curve.proofs.Builds.{built-refusal, built-passed, built-curve}
+use Rattle.curve.proofs.Assembled.{assembled-trusted}
+use Rattle.measure.specs.Measure.{lengthAnswer}
 use Rattle.measure.proofs.length_slices.Statement.{statement}
 use Rattle.measure.proofs.length_slices.Tie as tie
 
-abbrev start-of : tie.Else1 → tie.Start
-start-of c = c .before .before .before .before .before .before
-
--- past the rules the curve is assembled
-made : (c : tie.Else1) → c .before .before .assemble .result .curve ≡ controlCurve (now (start-of c .args .coords)) true (now (start-of c .args .knots))
-made c =
-    let b = c .before .before in
-    assembled _ _ _ (b .assemble .ensures .0) (b .assemble .ensures .1) (c .if1 .left)
-
-assemble-requires : tie.Need-assemble-requires
-assemble-requires c κs = search needs
-
 returns : tie.Need-returns
-returns c =
-    let b = c .before .before .before in
-    let a = b .before .before .before .before .args in
-    refused (sliceRules (now (a .coords)) true (now (a .knots))) _ (b .assemble .ensures .0) (c .before .if1 .taken)
+unfolding lengthAnswer
+returns c = tells (refused-told _ _ (built-refusal _ _ (c .before .before .before .assemble .ensures)) (c .if1 .taken))
 
 answer-length-requires : tie.Need-answer-length-requires
 answer-length-requires c κs =
-    let t = c .before in
-    let b = t .before .before in
-    assembled-trusted _ _ (b .assemble .ensures .0) (b .assemble .ensures .1) (t .if1 .left)
-
-same-length : tie.Need-same-length
-same-length c = search needs
+    let t = c .before .before .before .before .before in
+    assembled-trusted _ _ (t .before .before .before .assemble .ensures) (t .if1 .left)
 
 returns-2 : tie.Need-returns-2
+unfolding lengthAnswer
 returns-2 c =
-    let t = c .before .before .before .before in
-    let a = start-of t .args in
-    after (sliceRules (now (a .coords)) true (now (a .knots))) (numbered-handles _ false true _) (sym (t .before .before .assemble .ensures .0) ∙ t .if1 .left)
-    (moved (λ k. lengthRules (shapeOf k) (now (a .out))) (λ k. lengthOf plain (shapeOf k) ∷ []) (made t) (c .before .before .answer-length .ensures))
+    let t = c .before .before .before .before .before .before in
+    let b = t .before .before .before in
+    let a = b .before .before .before .args in
+    let made = built-curve _ _ (b .assemble .ensures) (t .if1 .left) in
+    tells
+    (after-told (handleRules Control (now (a .coords)) true (now (a .knots))) (numbered-handles Control _ true _) (built-passed _ _ (b .assemble .ensures) (t .if1 .left))
+    (record { is = c .answer-length .ensures ∙ ap (λ (k : Curve). lengthAnswer (trusting (k .points) (k .xs) (k .ys) (k .knots))) made }))
 
 pub length-slices-spec : {M : Type 1} → statement M
 length-slices-spec =
-    tie.close (tie.spec assemble-requires returns answer-length-requires same-length returns-2)
+    tie.close (tie.spec (search needs) returns answer-length-requires returns-2)

@@ -5,11 +5,8 @@ use mathlib.Core.Bool.{not}
 use Rattle.number.proofs.at_least.Statement.{statement}
 use Rattle.number.proofs.at_least.Tie as tie
 
-is-smaller-requires : tie.Need-is-smaller-requires
-is-smaller-requires c κs = search needs
-
 returns : tie.Need-returns
 returns c = ap not (c .is-smaller .ensures)
 
 pub at-least-spec : {M : Type 1} → statement M
-at-least-spec = tie.close (tie.spec is-smaller-requires returns)
+at-least-spec = tie.close (tie.spec (search needs) returns)

@@ -10,12 +10,6 @@ returns c = never-smaller _ _ (c .if1 .taken)
 returns-2 : tie.Need-returns-2
 returns-2 c = before-nan _ _ (c .before .if1 .left) (c .if2 .taken)
 
-magnitude-requires : tie.Need-magnitude-requires
-magnitude-requires c κs = search needs
-
-magnitude-requires-2 : tie.Need-magnitude-requires-2
-magnitude-requires-2 c κs = search needs
-
 returns-3 : tie.Need-returns-3
 returns-3 c =
     rw (c .magnitude2 .ensures, c .before .magnitude .ensures)
@@ -23,4 +17,4 @@ returns-3 c =
 
 pub is-smaller-spec : {M : Type 1} → statement M
 is-smaller-spec =
-    tie.close (tie.spec returns returns-2 magnitude-requires magnitude-requires-2 returns-3)
+    tie.close (tie.spec returns returns-2 (search needs) (search needs) returns-3)

@@ -14,15 +14,6 @@ same-rule c e = ap (λ o. ruleOf o (c .args .a) (c .args .b) (c .args .x) (c .ar
 enum-told : tie.Need-enum-told
 enum-told c = search needs
 
-enum-told-2 : tie.Need-enum-told-2
-enum-told-2 c = search needs
-
-enum-told-3 : tie.Need-enum-told-3
-enum-told-3 c = search needs
-
-enum-told-4 : tie.Need-enum-told-4
-enum-told-4 c = search needs
-
 returns : tie.Need-returns
 returns c = same-rule (c .before .before) (c .enum-told .given .1)
 
@@ -38,4 +29,4 @@ returns-4 c = same-rule (c .before .before) (c .enum-told4 .given .1)
 pub joined-spec : {M : Type 1} → statement M
 joined-spec =
     tie.close
-    (tie.spec enum-told enum-told-2 enum-told-3 enum-told-4 returns returns-2 returns-3 returns-4)
+    (tie.spec enum-told (search needs) (search needs) (search needs) returns returns-2 returns-3 returns-4)

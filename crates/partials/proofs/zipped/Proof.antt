@@ -15,35 +15,8 @@ Inv-loop rule n av ag an bv bg bn g₀ k₀ g k =
 abbrev μ-loop : tie.MeasureT-loop
 μ-loop rule n av ag an bv bg bn g₀ k₀ g k = n - k
 
-counted-requires : tie.Need-counted-requires Inv-loop μ-loop
-counted-requires c κs = search needs
-
-counted-requires-2 : tie.Need-counted-requires-2 Inv-loop μ-loop
-counted-requires-2 c κs = search needs
-
 loop-holds : tie.Need-loop-holds Inv-loop μ-loop
 loop-holds c = first (search needs)
-
-part-requires : tie.Need-part-requires Inv-loop μ-loop
-part-requires c κs = search needs
-
-part-requires-2 : tie.Need-part-requires-2 Inv-loop μ-loop
-part-requires-2 c κs = search needs
-
-joined-requires : tie.Need-joined-requires Inv-loop μ-loop
-joined-requires c κs = search needs
-
-mul-g : tie.Need-mul-g Inv-loop μ-loop
-mul-g c = search needs
-
-array-write-g : tie.Need-array-write-g Inv-loop μ-loop
-array-write-g c = search needs
-
-add-k : tie.Need-add-k Inv-loop μ-loop
-add-k c = search needs
-
-loop-less : tie.Need-loop-less Inv-loop μ-loop
-loop-less c = search needs
 
 loop-again : tie.Need-loop-again Inv-loop μ-loop
 loop-again c =
@@ -59,18 +32,5 @@ returns c =
 pub zipped-spec : {M : Type 1} → statement M
 zipped-spec =
     tie.close
-    (tie.spec
-    Inv-loop
-    μ-loop
-    counted-requires
-    counted-requires-2
-    loop-holds
-    part-requires
-    part-requires-2
-    joined-requires
-    mul-g
-    array-write-g
-    add-k
-    loop-less
-    loop-again
-    returns)
+    (tie.spec Inv-loop μ-loop (search needs) (search needs) loop-holds (search needs) (search needs) (search needs)
+    (search needs) (search needs) (search needs) (search needs) loop-again returns)

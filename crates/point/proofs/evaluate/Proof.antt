@@ -1,31 +1,34 @@
 -- `point::evaluate` meets its contract: the rules of the record, then the answer.
 use mathlib.Core.Path.{sym, _∙_}
-use Rattle.curve.specs.Record.{recordRules}
-use Rattle.answer.proofs.Doors.{refused, after}
-use Rattle.curve.proofs.Trusted.{numbered-record, trusted}
 use borrow.Author.Needs.{needs}
+use Rattle.refusal.proofs.Rows.{number-of}
+use Rattle.outcome.proofs.Doors.{leaves, refused, after}
+use Rattle.shape.proofs.Trusted.{numbered-shape, trusted}
+use Rattle.curve.specs.Record.{byRecord}
+use Rattle.point.specs.Point.{pointAnswer}
 use Rattle.point.proofs.evaluate.Statement.{statement}
 use Rattle.point.proofs.evaluate.Tie as tie
 
-recheck-requires : tie.Need-recheck-requires
-recheck-requires c κs = search needs
+abbrev start-of : tie.Else1 → tie.Start
+start-of c = c .before .before .before .before .before .before .before .before
 
 returns : tie.Need-returns
-returns c = refused (recordRules (c .before .before .before .before .args .c)) _ (c .before .before .recheck .ensures) (c .if1 .taken)
+unfolding pointAnswer
+returns c = leaves (refused _ _ (c .before .before .check .ensures) (c .if1 .taken))
 
 answer-point-requires : tie.Need-answer-point-requires
 answer-point-requires c κs =
-    let t = c .before in
-    trusted _ (sym (t .before .before .recheck .ensures) ∙ t .if1 .left)
-
-same-length : tie.Need-same-length
-same-length c = search needs
+    let t = c .before .before .before .before .before in
+    trusted _ (byRecord (start-of t .args .t1) .shape) (number-of (sym (t .before .before .check .ensures)) ∙ t .if1 .left)
 
 returns-2 : tie.Need-returns-2
+unfolding pointAnswer
 returns-2 c =
-    let t = c .before .before .before .before in
-    after (recordRules (t .before .before .before .before .args .c)) (numbered-record _) (sym (t .before .before .recheck .ensures) ∙ t .if1 .left) (c .before .before .answer-point .ensures)
+    let t = c .before .before .before .before .before .before .before .before in
+    leaves
+    (after (byRecord (start-of t .args .t1) .rules) (numbered-shape _ _) (number-of (sym (t .before .before .check .ensures)) ∙ t .if1 .left)
+    (record { is = c .before .before .answer-point .ensures }))
 
 pub evaluate-spec : {M : Type 1} → statement M
 evaluate-spec =
-    tie.close (tie.spec recheck-requires returns answer-point-requires same-length returns-2)
+    tie.close (tie.spec (search needs) returns answer-point-requires (search needs) returns-2)

@@ -1,51 +1,43 @@
 -- `point::point_tangent_slices` meets its contract: the rules of the slices, then the answer.
-use mathlib.Core.Path.{_≡_, sym, _∙_}
-use mathlib.Core.Bool.{true, false}
-use denote.Ref.{now}
-use Rattle.curve.specs.Record.{shapeOf}
-use Rattle.point.specs.Evaluate.{tangentNumbers, tangentRules}
-use Rattle.curve.specs.Build.{controlCurve, sliceRules}
-use Rattle.answer.proofs.Doors.{refused, after}
-use Rattle.curve.proofs.Curves.{moved}
-use Rattle.curve.proofs.Assembled.{numbered-handles, assembled, assembled-trusted}
+use mathlib.Core.Path.{ap, _∙_}
+use mathlib.Core.Bool.{true}
 use borrow.Author.Needs.{needs}
+use denote.Ref.{now}
+use Rattle.knots.specs.declared.Form.the-variants.{Control}
+use Rattle.outcome.proofs.Doors.{leaves, refused, after}
+use Rattle.shape.specs.Rules.{handleRules}
+use Rattle.shape.specs.Trusting.{trusting}
+use Rattle.shape.proofs.Handles.{numbered-handles}
+use Rattle.curve.specs.declared.Curve.{Curve}
+use Rattle.curve.proofs.Builds.{built-refusal, built-passed, built-curve}
+use Rattle.curve.proofs.Assembled.{assembled-trusted}
+use Rattle.point.specs.Point.{tangentAnswer}
 use Rattle.point.proofs.point_tangent_slices.Statement.{statement}
 use Rattle.point.proofs.point_tangent_slices.Tie as tie
 
-abbrev start-of : tie.Else1 → tie.Start
-start-of c = c .before .before .before .before .before .before
-
--- past the rules the curve is assembled
-made : (c : tie.Else1) → c .before .before .assemble .result .curve ≡ controlCurve (now (start-of c .args .coords)) true (now (start-of c .args .knots))
-made c =
-    let b = c .before .before in
-    assembled _ _ _ (b .assemble .ensures .0) (b .assemble .ensures .1) (c .if1 .left)
-
-assemble-requires : tie.Need-assemble-requires
-assemble-requires c κs = search needs
+abbrev start-of : tie.After-assemble → tie.Start
+start-of c = c .before .before .before .before
 
 returns : tie.Need-returns
-returns c =
-    let b = c .before .before .before in
-    let a = b .before .before .before .before .args in
-    refused (sliceRules (now (a .coords)) true (now (a .knots))) _ (b .assemble .ensures .0) (c .before .if1 .taken)
+unfolding tangentAnswer
+returns c = let t = c .before in leaves (refused _ _ (built-refusal _ _ (t .before .before .assemble .ensures)) (t .if1 .taken))
 
 answer-tangent-requires : tie.Need-answer-tangent-requires
 answer-tangent-requires c κs =
-    let t = c .before in
-    let b = t .before .before in
-    assembled-trusted _ _ (b .assemble .ensures .0) (b .assemble .ensures .1) (t .if1 .left)
-
-same-length : tie.Need-same-length
-same-length c = search needs
+    let t = c .before .before .before .before .before .before in
+    assembled-trusted _ _ (t .before .before .assemble .ensures) (t .if1 .left)
 
 returns-2 : tie.Need-returns-2
+unfolding tangentAnswer
 returns-2 c =
-    let t = c .before .before .before .before in
-    let a = start-of t .args in
-    after (sliceRules (now (a .coords)) true (now (a .knots))) (numbered-handles _ false true _) (sym (t .before .before .assemble .ensures .0) ∙ t .if1 .left)
-    (moved (λ k. tangentRules (shapeOf k) (a .t) (now (a .out))) (λ k. tangentNumbers (shapeOf k) (a .t)) (made t) (c .before .before .answer-tangent .ensures))
+    let t = c .before .before .before .before .before .before .before .before .before in
+    let b = t .before .before in
+    let a = start-of b .args in
+    let made = built-curve _ _ (b .assemble .ensures) (t .if1 .left) in
+    leaves
+    (after (handleRules Control (now (a .coords)) true (now (a .knots))) (numbered-handles Control _ true _) (built-passed _ _ (b .assemble .ensures) (t .if1 .left))
+    (record { is = c .before .before .answer-tangent .ensures ∙ ap (λ (k : Curve). tangentAnswer (trusting (k .points) (k .xs) (k .ys) (k .knots)) (a .t) (now (a .out))) made }))
 
 pub point-tangent-slices-spec : {M : Type 1} → statement M
 point-tangent-slices-spec =
-    tie.close (tie.spec assemble-requires returns answer-tangent-requires same-length returns-2)
+    tie.close (tie.spec (search needs) returns answer-tangent-requires (search needs) returns-2)

@@ -10,18 +10,6 @@ use Rattle.root.proofs.digits.Tie as tie
 known : (c : tie.After-floor-root) → Sized (c .before .before .args .m) (c .floor-root .result)
 known c = sized _ _ (c .before .before .pre .0) (c .before .before .pre .1) (c .floor-root .ensures)
 
-guess-requires : tie.Need-guess-requires
-guess-requires c κs = search needs
-
-floor-root-requires : tie.Need-floor-root-requires
-floor-root-requires c κs = search needs
-
-mul-a : tie.Need-mul-a
-mul-a c = search needs
-
-sub-a : tie.Need-sub-a
-sub-a c = search needs
-
 mul-a-2 : tie.Need-mul-a-2
 mul-a-2 c = omega (arith, known c)
 
@@ -58,4 +46,4 @@ returns-2 c = stays _ _ (c .before .floor-root .ensures .0) (known (c .before)) 
 pub digits-spec : {M : Type 1} → statement M
 digits-spec =
     tie.close
-    (tie.spec guess-requires floor-root-requires mul-a sub-a mul-a-2 div-q mul-r add-r mul-if1 add-if1 rem-if1 mul-if1-2 add-result returns returns-2)
+    (tie.spec (search needs) (search needs) (search needs) (search needs) mul-a-2 div-q mul-r add-r mul-if1 add-if1 rem-if1 mul-if1-2 add-result returns returns-2)

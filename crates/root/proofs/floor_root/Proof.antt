@@ -61,21 +61,5 @@ returns c = omega arith
 pub floor-root-spec : {M : Type 1} → statement M
 floor-root-spec =
     tie.close
-    (tie.spec
-    Inv-loop
-    μ-loop
-    Inv-loop2
-    μ-loop2
-    loop-holds
-    mul-loop
-    sub-s
-    loop-less
-    loop-again
-    loop2-holds
-    mul-loop2
-    mul-loop2-2
-    sub-loop2
-    add-s
-    loop2-less
-    loop2-again
-    returns)
+    (tie.spec Inv-loop μ-loop Inv-loop2 μ-loop2 loop-holds mul-loop sub-s loop-less loop-again loop2-holds mul-loop2
+    mul-loop2-2 sub-loop2 add-s loop2-less loop2-again returns)

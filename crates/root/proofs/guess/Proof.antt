@@ -9,22 +9,13 @@ use Rattle.root.proofs.guess.Tie as tie
 float-from-bits-f : tie.Need-float-from-bits-f
 float-from-bits-f c = no-nan _ (c .pre)
 
-sub-y0 : tie.Need-sub-y0
-sub-y0 c = search needs
-
 float-from-bits-y0 : tie.Need-float-from-bits-y0
 float-from-bits-y0 c = no-nan _ (omega arith)
 
 float-to-bits-result : tie.Need-float-to-bits-result
 float-to-bits-result c = lower-no-nan _ _ (c .if1 .taken)
 
-returns : tie.Need-returns
-returns c = search needs
-
-returns-2 : tie.Need-returns-2
-returns-2 c = search needs
-
 pub guess-spec : {M : Type 1} → statement M
 guess-spec =
     tie.close
-    (tie.spec float-from-bits-f sub-y0 float-from-bits-y0 float-to-bits-result returns returns-2)
+    (tie.spec float-from-bits-f (search needs) float-from-bits-y0 float-to-bits-result (search needs) (search needs))

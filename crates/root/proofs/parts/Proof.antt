@@ -23,12 +23,6 @@ shl-t7 c = omega (arith, known c)
 sub-t8 : tie.Need-sub-t8
 sub-t8 c = omega (arith, known c)
 
-add-t10 : tie.Need-add-t10
-add-t10 c = search needs
-
-add-t12 : tie.Need-add-t12
-add-t12 c = search needs
-
 returns : tie.Need-returns
 returns c =
     let l = known c in
@@ -38,4 +32,4 @@ returns-2 : tie.Need-returns-2
 returns-2 c = normal _ (c .if1 .left) (c .before .pre .1)
 
 pub parts-spec : {M : Type 1} → statement M
-parts-spec = tie.close (tie.spec cast-z sub-t6 shl-t7 sub-t8 add-t10 add-t12 returns returns-2)
+parts-spec = tie.close (tie.spec cast-z sub-t6 shl-t7 sub-t8 (search needs) (search needs) returns returns-2)

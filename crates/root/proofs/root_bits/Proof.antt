@@ -12,28 +12,10 @@ use Rattle.root.proofs.root_bits.Tie as tie
 known : (c : tie.After-parts) → Moved (c .parts .result .m) (c .parts .result .a % 2)
 known c = shift (c .before .args .b) _ _ (c .parts .ensures)
 
-parts-requires : tie.Need-parts-requires
-parts-requires c κs = search needs
-
-shl-digits : tie.Need-shl-digits
-shl-digits c = search needs
-
-add-digits : tie.Need-add-digits
-add-digits c = search needs
-
-mul-digits : tie.Need-mul-digits
-mul-digits c = search needs
-
-add-digits-2 : tie.Need-add-digits-2
-add-digits-2 c = search needs
-
 digits-requires : tie.Need-digits-requires
 digits-requires c κs =
     let w = known c in
     (subst (λ (n : ℕ). 2 ^ 52 ≤ n) (sym (w .exact)) (w .least), subst (λ (n : ℕ). n < 2 ^ 54) (sym (w .exact)) (omega (arith, w .most)), omega arith)
-
-mul-result : tie.Need-mul-result
-mul-result c = search needs
 
 -- what `digits` found, of the number that the shift by o has made without dropping a digit
 near : (c : tie.After-digits) → NearestWhole (radicand (c .before .parts .result .m) (c .before .parts .result .a)) (c .digits .result)
@@ -51,4 +33,4 @@ returns c = (fits c, pattern-is _ _ _ _ (c .before .before .pre .1) (c .before .
 pub root-bits-spec : {M : Type 1} → statement M
 root-bits-spec =
     tie.close
-    (tie.spec parts-requires shl-digits add-digits mul-digits add-digits-2 digits-requires mul-result add-result returns)
+    (tie.spec (search needs) (search needs) (search needs) (search needs) (search needs) digits-requires (search needs) add-result returns)

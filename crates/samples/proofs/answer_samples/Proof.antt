@@ -1,120 +1,91 @@
 -- `samples::answer_samples` meets its contract: the samples are made in a room of their own and delivered, and then they are counted.
-use mathlib.Core.Path.{_≡_, sym}
-use mathlib.Core.List.{List, _++_}
-use Prim.Native.Nat.{ℕ, _+_}
+use mathlib.Core.Path.{_≡_, sym, ap, _∙_}
+use mathlib.Core.List.{List, [], _∷_, _++_}
 use native.Mathlib.Nat.{suc-ne-zero}
 use native.Mathlib.Omega.{arith}
+use borrow.Author.Needs.{needs}
 use borrow.Author.Tests.{lt-ltb, le-ltb}
 use denote.Ref.{now}
-use lib.ListN.{length, set, drop, replicate, length-replicate}
+use lib.Dec.{ltb}
+use lib.ListN.{length, drop, replicate, length-append, length-drop, length-replicate}
 use lib.Ieee.{Float}
-use Rattle.meaning.specs.Scalar.{plain, zero64}
-use Rattle.meaning.specs.Table.{at1}
-use Rattle.curve.specs.Record.{shapeOf}
-use Rattle.answer.specs.Answer.{deliveryRules, Answer}
-use Rattle.samples.specs.Samples.{samplesOf, sampleRules}
-use Rattle.answer.proofs.Doors.{stop, pass}
-use Rattle.samples.proofs.Sampled.{samples-count, samples-room, delivered-front, count-stays, count-given}
-use borrow.Author.Needs.{needs}
+use Rattle.meaning.specs.Scalar.{zero64}
+use Rattle.refusal.specs.Refusals.{row}
+use Rattle.refusal.proofs.Rows.{number-of}
+use Rattle.outcome.specs.Outcome.{deliveryRules, Outcome, answering}
+use Rattle.outcome.proofs.Doors.{leaves, stop, pass}
+use Rattle.samples.specs.Samples.{samplesOf, samplesAnswer}
+use Rattle.samples.proofs.Sampled.{delivered-front, walk-count, walk-room, count-stays, count-given}
 use Rattle.samples.proofs.answer_samples.Statement.{statement}
 use Rattle.samples.proofs.answer_samples.Tie as tie
 
 returns : tie.Need-returns
-unfolding sampleRules
-returns c = let a = stop 12 (lt-ltb _ _ (c .if1 .taken)) in record { answer = a; counted = count-stays _ (suc-ne-zero 12) a }
+unfolding samplesAnswer
+returns c = count-stays (leaves (stop 12 (c .by .ensures) (lt-ltb _ _ (c .before .if1 .taken)))) _ _ (λ z. suc-ne-zero 12 (number-of (sym (c .by .ensures)) ∙ z))
 
-abbrev start-of : tie.After-sample-pairs → tie.Start
-start-of c = c .before .before .before .before .before .before
+abbrev start-of : tie.After-walk → tie.Start
+start-of c = c .before .before .before .before
 
-abbrev samples : tie.After-sample-pairs → List Float
-samples c = samplesOf (shapeOf (start-of c .args .c)) (start-of c .args .per)
+abbrev samples : tie.After-walk → List Float
+samples c = let a = start-of c .args in samplesOf (record { n = a .n; xs = []; ys = []; knots = now (a .u) }) (a .per)
 
--- the room, with the end of the domain behind the samples of the pairs
-abbrev room-of : tie.After-sample-pairs → List Float
-room-of c = set (c .sample-pairs .last .1 .1 .1 .0) (c .sample-pairs .result) (at1 plain (start-of c .args .c .knots) (start-of c .args .c .points + 3))
+abbrev room-of : tie.After-walk → List Float
+room-of c = c .walk .last .1 .1 .1 .0
 
-room-is : (c : tie.After-sample-pairs) → room-of c ≡ samples c ++ drop (c .sample-pairs .result + 1) (replicate 1105 zero64)
+count-is : (c : tie.After-walk) → c .walk .result ≡ length (samples c)
+count-is c =
+    let s = start-of c in
+    walk-count (s .args .n) (now (s .args .u)) (s .args .per) (s .pre .room) (c .before .before .if1 .left) (replicate 1105 zero64) (c .walk .ensures .0)
+
+room-is : (c : tie.After-walk) → room-of c ≡ samples c ++ drop (length (samples c)) (replicate 1105 zero64)
 room-is c =
-    samples-room (shapeOf (start-of c .args .c)) (start-of c .args .per) (replicate 1105 zero64)
-    (omega (arith, c .sample-pairs .ensures .0, length-replicate 1105 zero64)) (c .sample-pairs .ensures .1 .0) (c .sample-pairs .ensures .1 .1)
-
-count-is : (c : tie.After-sample-pairs) → length (samples c) ≡ c .sample-pairs .result + 1
-count-is c = samples-count (shapeOf (start-of c .args .c)) (start-of c .args .per) (c .sample-pairs .ensures .1 .0)
+    let s = start-of c in
+    walk-room (s .args .n) (now (s .args .u)) (s .args .per) (s .pre .room) (c .before .before .if1 .left) (replicate 1105 zero64) (c .walk .ensures .0)
 
 -- what is delivered of the room is the answer of the curve
-answered : (c : tie.After-sample-pairs) {m : ℕ} {out′ : List Float} → let out = now (start-of c .args .out) in let k = c .sample-pairs .result + 1 in
-    Answer (deliveryRules (room-of c) k out) (room-of c) k out m out′
-    → Answer (sampleRules (shapeOf (start-of c .args .c)) (start-of c .args .per) out) (samples c) (length (samples c)) out m out′
-unfolding sampleRules
+answered : (c : tie.After-walk) {o : Outcome} → let out = now (start-of c .args .out) in let k = c .walk .result in
+    o ≡ answering (deliveryRules (room-of c) k out) (room-of c) k out
+    → o ≡ answering (row 13 (ltb 16 (start-of c .args .per)) ∷ deliveryRules (samples c) (length (samples c)) out) (samples c) (length (samples c)) out
 answered c a =
-    pass 13 (le-ltb _ _ (c .before .before .before .before .if1 .left))
-    (delivered-front (room-of c) (samples c) _ (now (start-of c .args .out)) (room-is c) (sym (count-is c)) a)
-
-slice-aggregate-sample-pairs : tie.Need-slice-aggregate-sample-pairs
-slice-aggregate-sample-pairs c = search needs
-
-sample-pairs-requires : tie.Need-sample-pairs-requires
-sample-pairs-requires c κs = search needs
-
-add-room : tie.Need-add-room
-add-room c = search needs
-
-mul-room : tie.Need-mul-room
-mul-room c = search needs
-
-array-read-room : tie.Need-array-read-room
-array-read-room c = search needs
-
-mul-room-2 : tie.Need-mul-room-2
-mul-room-2 c = search needs
-
-array-write-room : tie.Need-array-write-room
-array-write-room c = search needs
-
-add-k : tie.Need-add-k
-add-k c = search needs
+    leaves (pass 13 (le-ltb _ _ (c .before .before .if1 .left)) (delivered-front (room-of c) (samples c) _ (now (start-of c .args .out)) (room-is c) (count-is c) a))
 
 slice-aggregate-deliver : tie.Need-slice-aggregate-deliver
-slice-aggregate-deliver c = search needs
-
-deliver-requires : tie.Need-deliver-requires
-deliver-requires c κs = omega (arith, slice-aggregate-deliver (c .before), c .before .before .before .sample-pairs .ensures .0)
-
-same-length : tie.Need-same-length
-same-length c = search needs
+slice-aggregate-deliver c =
+    let w = c .before in
+    let zeros = replicate 1105 zero64 in
+    omega (
+      arith,
+      ap length (room-is w),
+      length-append (samples w) (drop (length (samples w)) zeros),
+      length-drop (length (samples w)) zeros,
+      length-replicate 1105 zero64,
+      count-is w,
+      w .walk .ensures .1,
+    )
 
 returns-2 : tie.Need-returns-2
+unfolding samplesAnswer
 returns-2 c =
     let d = c .before .before .before .before in
-    let s = d .before .before .before .before in
-    let a = answered s (d .deliver .ensures) in
-    record { answer = a; counted = count-given _ (c .if2 .taken) a (sym (count-is s)) }
-
-same-length-2 : tie.Need-same-length-2
-same-length-2 c = search needs
+    let w = d .before .before .before in
+    count-given (answered w (d .deliver .ensures)) _ _ (c .if2 .taken) (count-is w)
 
 returns-3 : tie.Need-returns-3
+unfolding samplesAnswer
 returns-3 c =
     let d = c .before .before .before .before in
-    let a = answered (d .before .before .before .before) (d .deliver .ensures) in
-    record { answer = a; counted = count-stays _ (c .if2 .left) a }
+    count-stays (answered (d .before .before .before) (d .deliver .ensures)) _ _ (c .if2 .left)
 
 pub answer-samples-spec : {M : Type 1} → statement M
 answer-samples-spec =
     tie.close
     (tie.spec
+    (search needs)
     returns
-    slice-aggregate-sample-pairs
-    sample-pairs-requires
-    add-room
-    mul-room
-    array-read-room
-    mul-room-2
-    array-write-room
-    add-k
+    (search needs)
     slice-aggregate-deliver
-    deliver-requires
-    same-length
+    (search needs)
+    (search needs)
     returns-2
-    same-length-2
+    (search needs)
     returns-3)

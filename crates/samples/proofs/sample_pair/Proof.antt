@@ -34,21 +34,6 @@ int-to-float-room c = held _ (omega arith)
 int-to-float-room-2 : tie.Need-int-to-float-room-2 Inv-loop μ-loop
 int-to-float-room-2 c = held _ (omega arith)
 
-add-room : tie.Need-add-room Inv-loop μ-loop
-add-room c = search needs
-
-mul-room : tie.Need-mul-room Inv-loop μ-loop
-mul-room c = search needs
-
-slice-write-room : tie.Need-slice-write-room Inv-loop μ-loop
-slice-write-room c = search needs
-
-add-s : tie.Need-add-s Inv-loop μ-loop
-add-s c = search needs
-
-loop-less : tie.Need-loop-less Inv-loop μ-loop
-loop-less c = search needs
-
 loop-again : tie.Need-loop-again Inv-loop μ-loop
 loop-again c =
     let l = c .before .before .before .loop in
@@ -60,26 +45,11 @@ loop-again c =
           (paste-suc (now (a .room)) (a .at) p (l .s) nan (omega arith) (omega (arith, length-listed 0 (a .per) (sampleAt (a .w0) (a .w1) (a .per))))),
     )
 
-same-length : tie.Need-same-length Inv-loop μ-loop
-same-length c = search needs
-
 returns : tie.Need-returns Inv-loop μ-loop
 returns c = let e : c .before .loop .s ≡ c .before .before .args .per = omega arith in rw e at (c .before .loop .inv .2)
 
 pub sample-pair-spec : {M : Type 1} → statement M
 sample-pair-spec =
     tie.close
-    (tie.spec
-    Inv-loop
-    μ-loop
-    loop-holds
-    int-to-float-room
-    int-to-float-room-2
-    add-room
-    mul-room
-    slice-write-room
-    add-s
-    loop-less
-    loop-again
-    same-length
-    returns)
+    (tie.spec Inv-loop μ-loop loop-holds int-to-float-room int-to-float-room-2 (search needs) (search needs)
+    (search needs) (search needs) (search needs) loop-again (search needs) returns)

@@ -20,35 +20,8 @@ Inv-loop u n per room₀ at₀ pairs i₀ room at i = (pairs ≡ n + 3) × (i �
 abbrev μ-loop : tie.MeasureT-loop
 μ-loop u n per room₀ at₀ pairs i₀ room at i = pairs - i
 
-add-pairs : tie.Need-add-pairs Inv-loop μ-loop
-add-pairs c = search needs
-
 loop-holds : tie.Need-loop-holds Inv-loop μ-loop
 loop-holds c = (search needs, search needs, sampled-first _ _ _)
-
-mul-sample-rising : tie.Need-mul-sample-rising Inv-loop μ-loop
-mul-sample-rising c = search needs
-
-element-copy-out-sample-rising : tie.Need-element-copy-out-sample-rising Inv-loop μ-loop
-element-copy-out-sample-rising c = search needs
-
-add-sample-rising : tie.Need-add-sample-rising Inv-loop μ-loop
-add-sample-rising c = search needs
-
-mul-sample-rising-2 : tie.Need-mul-sample-rising-2 Inv-loop μ-loop
-mul-sample-rising-2 c = search needs
-
-element-copy-out-sample-rising-2 : tie.Need-element-copy-out-sample-rising-2 Inv-loop μ-loop
-element-copy-out-sample-rising-2 c = search needs
-
-sample-rising-requires : tie.Need-sample-rising-requires Inv-loop μ-loop
-sample-rising-requires c κs = search needs
-
-add-i : tie.Need-add-i Inv-loop μ-loop
-add-i c = search needs
-
-loop-less : tie.Need-loop-less Inv-loop μ-loop
-loop-less c = search needs
 
 loop-again : tie.Need-loop-again Inv-loop μ-loop
 loop-again c =
@@ -62,9 +35,6 @@ loop-again c =
       sampled-next (l .inv .2) (omega arith) (ap length (r .ensures .1) ∙ length-paste (l .room) (l .at) p (length p) (omega (arith, l .inv .2 .few, l .inv .2 .long)) (le-refl (length p))) (r .ensures .0) (r .ensures .1),
     )
 
-same-length : tie.Need-same-length Inv-loop μ-loop
-same-length c = search needs
-
 returns : tie.Need-returns Inv-loop μ-loop
 returns c =
     let l = c .before .loop in
@@ -75,19 +45,5 @@ returns c =
 pub sample-pairs-spec : {M : Type 1} → statement M
 sample-pairs-spec =
     tie.close
-    (tie.spec
-    Inv-loop
-    μ-loop
-    add-pairs
-    loop-holds
-    mul-sample-rising
-    element-copy-out-sample-rising
-    add-sample-rising
-    mul-sample-rising-2
-    element-copy-out-sample-rising-2
-    sample-rising-requires
-    add-i
-    loop-less
-    loop-again
-    same-length
-    returns)
+    (tie.spec Inv-loop μ-loop (search needs) loop-holds (search needs) (search needs) (search needs) (search needs)
+    (search needs) (search needs) (search needs) (search needs) loop-again (search needs) returns)

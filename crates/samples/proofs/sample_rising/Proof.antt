@@ -11,15 +11,6 @@ use borrow.Author.Needs.{needs}
 use Rattle.samples.proofs.sample_rising.Statement.{statement}
 use Rattle.samples.proofs.sample_rising.Tie as tie
 
-sample-pair-requires : tie.Need-sample-pair-requires
-sample-pair-requires c κs = search needs
-
-add-result : tie.Need-add-result
-add-result c = search needs
-
-same-length : tie.Need-same-length
-same-length c = search needs
-
 returns : tie.Need-returns
 returns c =
     let t = c .before .before .before .before in
@@ -35,4 +26,4 @@ returns-2 c =
 
 pub sample-rising-spec : {M : Type 1} → statement M
 sample-rising-spec =
-    tie.close (tie.spec sample-pair-requires add-result same-length returns returns-2)
+    tie.close (tie.spec (search needs) (search needs) (search needs) returns returns-2)

@@ -1,31 +1,40 @@
 -- `samples::samples` meets its contract: the rules of the record, then the answer.
-use mathlib.Core.Path.{sym, _∙_}
-use Rattle.curve.specs.Record.{recordRules}
-use Rattle.samples.proofs.Counted.{refused-counted, after-counted}
-use Rattle.curve.proofs.Trusted.{numbered-record, trusted}
+use mathlib.Core.Path.{refl, sym, ap, _∙_}
 use borrow.Author.Needs.{needs}
+use denote.Ref.{now}
+use lib.ListN.{length}
+use Rattle.refusal.proofs.Rows.{number-of}
+use Rattle.outcome.specs.Outcome.{Outcome}
+use Rattle.outcome.proofs.Doors.{leaves, refused, after}
+use Rattle.shape.proofs.Trusted.{numbered-shape, trusted}
+use Rattle.curve.specs.Record.{byRecord}
+use Rattle.samples.specs.Samples.{samplesOf, counting, samplesAnswer}
+use Rattle.samples.proofs.Sampled.{count-stays}
 use Rattle.samples.proofs.samples.Statement.{statement}
 use Rattle.samples.proofs.samples.Tie as tie
 
-recheck-requires : tie.Need-recheck-requires
-recheck-requires c κs = search needs
+abbrev start-of : tie.Else1 → tie.Start
+start-of c = c .before .before .before .before .before .before .before .before
 
 returns : tie.Need-returns
-returns c = refused-counted (recordRules (c .before .before .before .before .args .c)) _ (c .before .before .recheck .ensures) (c .if1 .taken)
+unfolding samplesAnswer
+returns c = count-stays (leaves (refused _ _ (c .before .before .check .ensures) (c .if1 .taken))) _ _ (c .if1 .taken)
 
 answer-samples-requires : tie.Need-answer-samples-requires
 answer-samples-requires c κs =
-    let t = c .before .before in
-    trusted _ (sym (t .before .before .recheck .ensures) ∙ t .if1 .left)
-
-same-length : tie.Need-same-length
-same-length c = search needs
+    let t = c .before .before .before .before in
+    trusted _ (byRecord (start-of t .args .t1) .shape) (number-of (sym (t .before .before .check .ensures)) ∙ t .if1 .left)
 
 returns-2 : tie.Need-returns-2
+unfolding samplesAnswer samplesOf
 returns-2 c =
-    let t = c .before .before .before .before .before in
-    after-counted (recordRules (t .before .before .before .before .args .c)) (numbered-record _) (sym (t .before .before .recheck .ensures) ∙ t .if1 .left) (c .before .before .answer-samples .ensures)
+    let t = c .before .before .before .before .before .before .before in
+    let a = start-of t .args in
+    let k = length (samplesOf (byRecord (a .t1) .shape) (a .per)) in
+    c .before .before .answer-samples .ensures
+    ∙ ap (λ (o : Outcome). counting o k (now (a .count)))
+    (leaves (after (byRecord (a .t1) .rules) (numbered-shape _ _) (number-of (sym (t .before .before .check .ensures)) ∙ t .if1 .left) (record { is = refl })))
 
 pub samples-spec : {M : Type 1} → statement M
 samples-spec =
-    tie.close (tie.spec recheck-requires returns answer-samples-requires same-length returns-2)
+    tie.close (tie.spec (search needs) returns answer-samples-requires (search needs) returns-2)

@@ -1,50 +1,48 @@
 -- `samples::samples_slices` meets its contract: the rules of the slices, then the answer.
-use mathlib.Core.Path.{_≡_, sym, _∙_}
-use mathlib.Core.Bool.{true, false}
-use denote.Ref.{now}
-use Rattle.curve.specs.Record.{shapeOf}
-use Rattle.samples.specs.Samples.{samplesOf, sampleRules}
-use Rattle.curve.specs.Build.{controlCurve, sliceRules}
-use Rattle.samples.proofs.Counted.{refused-counted, after-counted, moved-counted}
-use Rattle.curve.proofs.Assembled.{numbered-handles, assembled, assembled-trusted}
+use mathlib.Core.Path.{refl, sym, ap, _∙_}
+use mathlib.Core.Bool.{true}
+use mathlib.Core.List.{[]}
 use borrow.Author.Needs.{needs}
+use denote.Ref.{now}
+use lib.ListN.{length}
+use Rattle.knots.specs.declared.Form.the-variants.{Control}
+use Rattle.outcome.specs.Outcome.{Outcome}
+use Rattle.outcome.proofs.Doors.{leaves, refused, after}
+use Rattle.shape.specs.Shape.{sliceShape}
+use Rattle.shape.specs.Rules.{handleRules}
+use Rattle.shape.specs.Trusting.{trusting}
+use Rattle.shape.proofs.Handles.{numbered-handles}
+use Rattle.curve.specs.declared.Curve.{Curve}
+use Rattle.curve.proofs.Builds.{built-refusal, built-passed, built-curve}
+use Rattle.curve.proofs.Assembled.{assembled-trusted}
+use Rattle.samples.specs.Samples.{samplesOf, counting, samplesAnswer}
+use Rattle.samples.proofs.Sampled.{count-stays}
 use Rattle.samples.proofs.samples_slices.Statement.{statement}
 use Rattle.samples.proofs.samples_slices.Tie as tie
 
-abbrev start-of : tie.Else1 → tie.Start
-start-of c = c .before .before .before .before .before .before
-
--- past the rules the curve is assembled
-made : (c : tie.Else1) → c .before .before .assemble .result .curve ≡ controlCurve (now (start-of c .args .coords)) true (now (start-of c .args .knots))
-made c =
-    let b = c .before .before in
-    assembled _ _ _ (b .assemble .ensures .0) (b .assemble .ensures .1) (c .if1 .left)
-
-assemble-requires : tie.Need-assemble-requires
-assemble-requires c κs = search needs
-
 returns : tie.Need-returns
-returns c =
-    let b = c .before .before .before in
-    let a = b .before .before .before .before .args in
-    refused-counted (sliceRules (now (a .coords)) true (now (a .knots))) _ (b .assemble .ensures .0) (c .before .if1 .taken)
+unfolding samplesAnswer
+returns c = let t = c .before in count-stays (leaves (refused _ _ (built-refusal _ _ (t .before .before .assemble .ensures)) (t .if1 .taken))) _ _ (t .if1 .taken)
 
 answer-samples-requires : tie.Need-answer-samples-requires
 answer-samples-requires c κs =
-    let t = c .before .before in
-    let b = t .before .before in
-    assembled-trusted _ _ (b .assemble .ensures .0) (b .assemble .ensures .1) (t .if1 .left)
-
-same-length : tie.Need-same-length
-same-length c = search needs
+    let t = c .before .before .before .before .before in
+    assembled-trusted _ _ (t .before .before .assemble .ensures) (t .if1 .left)
 
 returns-2 : tie.Need-returns-2
+unfolding samplesAnswer samplesOf
 returns-2 c =
-    let t = c .before .before .before .before .before in
-    let a = start-of t .args in
-    after-counted (sliceRules (now (a .coords)) true (now (a .knots))) (numbered-handles _ false true _) (sym (t .before .before .assemble .ensures .0) ∙ t .if1 .left)
-    (moved-counted (λ k. sampleRules (shapeOf k) (a .per) (now (a .out))) (λ k. samplesOf (shapeOf k) (a .per)) (made t) (c .before .before .answer-samples .ensures))
+    let t = c .before .before .before .before .before .before .before .before in
+    let b = t .before .before in
+    let a = b .before .before .before .before .args in
+    let coords = now (a .coords) in
+    let k = length (samplesOf (sliceShape coords (now (a .knots))) (a .per)) in
+    c .before .before .answer-samples .ensures
+    ∙ ap (λ (m : Curve). samplesAnswer (trusting (m .points) [] [] (m .knots)) (a .per) (now (a .out)) (now (a .count))) (built-curve _ _ (b .assemble .ensures) (t .if1 .left))
+    ∙ ap (λ (o : Outcome). counting o k (now (a .count)))
+    (leaves
+    (after (handleRules Control coords true (now (a .knots))) (numbered-handles Control _ true _) (built-passed _ _ (b .assemble .ensures) (t .if1 .left)) (record { is = refl })))
 
 pub samples-slices-spec : {M : Type 1} → statement M
 samples-slices-spec =
-    tie.close (tie.spec assemble-requires returns answer-samples-requires same-length returns-2)
+    tie.close (tie.spec (search needs) returns answer-samples-requires (search needs) returns-2)

@@ -6,26 +6,14 @@ use Rattle.sheet_read.proofs.Numerals.{not-below, decimal-is, letter-is
 use Rattle.sheet_read.proofs.digit.Statement.{statement}
 use Rattle.sheet_read.proofs.digit.Tie as tie
 
-lies-within-requires : tie.Need-lies-within-requires
-lies-within-requires c κs = search needs
-
 sub-result : tie.Need-sub-result
 sub-result c = omega (arith, not-below 48 57 (c .before .before .args .b) (sym (c .before .lies-within .ensures) ∙ c .if1 .taken))
-
-cast-result : tie.Need-cast-result
-cast-result c = search needs
 
 returns : tie.Need-returns
 returns c = sym (decimal-is _ (sym (c .before .lies-within .ensures) ∙ c .if1 .taken))
 
-lies-within-requires-2 : tie.Need-lies-within-requires-2
-lies-within-requires-2 c κs = search needs
-
 sub-result-2 : tie.Need-sub-result-2
 sub-result-2 c = omega (arith, not-below 65 70 (c .before .before .before .before .args .b) (sym (c .before .lies-within2 .ensures) ∙ c .if2 .taken))
-
-cast-result-2 : tie.Need-cast-result-2
-cast-result-2 c = search needs
 
 returns-2 : tie.Need-returns-2
 returns-2 c =
@@ -40,13 +28,5 @@ returns-3 c =
 pub digit-spec : {M : Type 1} → statement M
 digit-spec =
     tie.close
-    (tie.spec
-    lies-within-requires
-    sub-result
-    cast-result
-    returns
-    lies-within-requires-2
-    sub-result-2
-    cast-result-2
-    returns-2
+    (tie.spec (search needs) sub-result (search needs) returns (search needs) sub-result-2 (search needs) returns-2
     returns-3)

@@ -15,15 +15,9 @@ returns c =
     let a = c .before .before .args in
     ap (λ (b : ℕ). ofBits binary64 b) (sym (nothing-past 16 (now (a .s)) (a .at) (c .if1 .taken) 16))
 
-number-requires : tie.Need-number-requires
-number-requires c κs = search needs
-
-of-bits-requires : tie.Need-of-bits-requires
-of-bits-requires c κs = search needs
-
 returns-2 : tie.Need-returns-2
 unfolding doubleAt
 returns-2 c = c .of-bits .ensures ∙ ap (λ (b : ℕ). ofBits binary64 b) (c .before .number .ensures)
 
 pub double-spec : {M : Type 1} → statement M
-double-spec = tie.close (tie.spec returns number-requires of-bits-requires returns-2)
+double-spec = tie.close (tie.spec returns (search needs) (search needs) returns-2)

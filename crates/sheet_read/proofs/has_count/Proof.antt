@@ -10,14 +10,8 @@ use Rattle.sheet_read.proofs.has_count.Tie as tie
 few : (c : tie.After-digits) → c .digits .result ≤ 4
 few c = rw (c .digits .ensures) (few-digits _ _)
 
-digits-requires : tie.Need-digits-requires
-digits-requires c κs = search needs
-
 returns : tie.Need-returns
 returns c = no-count _ _ _ (c .before .digits .ensures) (c .if1 .taken)
-
-leads-well-requires : tie.Need-leads-well-requires
-leads-well-requires c κs = search needs
 
 returns-2 : tie.Need-returns-2
 returns-2 c =
@@ -36,9 +30,6 @@ returns-3 c =
 add-byte : tie.Need-add-byte
 add-byte c = omega (arith, few (c .before .before .before .before .before))
 
-byte-requires : tie.Need-byte-requires
-byte-requires c κs = search needs
-
 returns-4 : tie.Need-returns-4
 returns-4 c =
     let g = c .before .before .before in
@@ -49,13 +40,5 @@ returns-4 c =
 pub has-count-spec : {M : Type 1} → statement M
 has-count-spec =
     tie.close
-    (tie.spec
-    digits-requires
-    returns
-    leads-well-requires
-    returns-2
-    number-requires
-    returns-3
-    add-byte
-    byte-requires
+    (tie.spec (search needs) returns (search needs) returns-2 number-requires returns-3 add-byte (search needs)
     returns-4)

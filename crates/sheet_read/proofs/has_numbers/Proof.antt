@@ -17,36 +17,19 @@ abbrev μ-loop : tie.MeasureT-loop
 μ-loop s per n start j₀ j = n - j
 
 -- what was tested is the number in its place
-tested : (c : tie.After-has-double Inv-loop μ-loop) → c .has-double .result
+tested : (c : tie.After-has-hex Inv-loop μ-loop) → c .has-hex .result
     ≡ doubleStands (now (c .before .before .before .before .before .args .s)) (byteAfter (c .before .before .before .before .before .args .per) (c .before .before .before .loop .j)) (numberPlace (c .before .before .before .before .before .args .start) (c .before .before .before .loop .j))
-tested c = rw (sym (c .before .after-number .ensures)) (c .has-double .ensures)
+unfolding doubleStands
+tested c = rw (sym (c .before .after-number .ensures)) (c .has-hex .ensures)
 
 loop-holds : tie.Need-loop-holds Inv-loop μ-loop
 loop-holds c = start-of
-
-after-number-requires : tie.Need-after-number-requires Inv-loop μ-loop
-after-number-requires c κs = search needs
-
-mul-has-double : tie.Need-mul-has-double Inv-loop μ-loop
-mul-has-double c = search needs
-
-add-has-double : tie.Need-add-has-double Inv-loop μ-loop
-add-has-double c = search needs
-
-has-double-requires : tie.Need-has-double-requires Inv-loop μ-loop
-has-double-requires c κs = search needs
 
 returns : tie.Need-returns Inv-loop μ-loop
 unfolding numbersStand
 returns c =
     let l = c .before .before .before .before .loop in
     fails (l .inv) (search needs) (sym (tested (c .before)) ∙ not-true _ (c .if1 .taken))
-
-add-j : tie.Need-add-j Inv-loop μ-loop
-add-j c = search needs
-
-loop-less : tie.Need-loop-less Inv-loop μ-loop
-loop-less c = search needs
 
 loop-again : tie.Need-loop-again Inv-loop μ-loop
 loop-again c =
@@ -60,16 +43,5 @@ returns-2 c = holds (c .before .loop .inv) (search needs)
 pub has-numbers-spec : {M : Type 1} → statement M
 has-numbers-spec =
     tie.close
-    (tie.spec
-    Inv-loop
-    μ-loop
-    loop-holds
-    after-number-requires
-    mul-has-double
-    add-has-double
-    has-double-requires
-    returns
-    add-j
-    loop-less
-    loop-again
-    returns-2)
+    (tie.spec Inv-loop μ-loop loop-holds (search needs) (search needs) (search needs) (search needs) returns
+    (search needs) (search needs) loop-again returns-2)

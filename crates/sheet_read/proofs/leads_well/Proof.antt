@@ -7,11 +7,8 @@ use Rattle.sheet_read.proofs.leads_well.Tie as tie
 returns : tie.Need-returns
 returns c = rw (eq-eqb _ _ (c .if1 .taken))
 
-byte-requires : tie.Need-byte-requires
-byte-requires c κs = search needs
-
 returns-2 : tie.Need-returns-2
 returns-2 c = rw (ne-eqb _ _ (c .before .if1 .left), c .byte .ensures)
 
 pub leads-well-spec : {M : Type 1} → statement M
-leads-well-spec = tie.close (tie.spec returns byte-requires returns-2)
+leads-well-spec = tie.close (tie.spec returns (search needs) returns-2)

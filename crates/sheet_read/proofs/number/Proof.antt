@@ -30,23 +30,8 @@ mul-v c =
     let l = c .before .loop in
     omega (arith, fits-word (l .i + 1) (larger (l .i) {d = 0} (l .inv .0) (c .before .before .before .pre .0) (omega arith)) (omega arith))
 
-add-byte : tie.Need-add-byte Inv-loop μ-loop
-add-byte c = search needs
-
-byte-requires : tie.Need-byte-requires Inv-loop μ-loop
-byte-requires c κs = search needs
-
-digit-requires : tie.Need-digit-requires Inv-loop μ-loop
-digit-requires c κs = search needs
-
 add-v : tie.Need-add-v Inv-loop μ-loop
 add-v c = omega (arith, fits-word (c .before .before .before .loop .i + 1) (grown c) (omega arith))
-
-add-i : tie.Need-add-i Inv-loop μ-loop
-add-i c = search needs
-
-loop-less : tie.Need-loop-less Inv-loop μ-loop
-loop-less c = search needs
 
 loop-again : tie.Need-loop-again Inv-loop μ-loop
 loop-again c =
@@ -60,16 +45,5 @@ returns c = last (c .before .loop .inv .1) (search needs)
 pub number-spec : {M : Type 1} → statement M
 number-spec =
     tie.close
-    (tie.spec
-    Inv-loop
-    μ-loop
-    loop-holds
-    mul-v
-    add-byte
-    byte-requires
-    digit-requires
-    add-v
-    add-i
-    loop-less
-    loop-again
-    returns)
+    (tie.spec Inv-loop μ-loop loop-holds mul-v (search needs) (search needs) (search needs) add-v (search needs)
+    (search needs) loop-again returns)

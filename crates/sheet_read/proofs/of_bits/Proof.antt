@@ -28,8 +28,5 @@ float-from-bits-result c =
     let a = c .before .args .bits in
     subst (λ (b : Bool). T (not b)) (sym (nanBits-above binary64 a ∙ le-ltb _ _ (c .if1 .left))) tt
 
-returns-2 : tie.Need-returns-2
-returns-2 c = search needs
-
 pub of-bits-spec : {M : Type 1} → statement M
-of-bits-spec = tie.close (tie.spec returns float-from-bits-result returns-2)
+of-bits-spec = tie.close (tie.spec returns float-from-bits-result (search needs))

@@ -26,32 +26,14 @@ small c =
     (sym (k .before .has-count .ensures) ∙ not-false _ (k .if2 .left)) (c .before .digits .ensures) (c .number .ensures))
     (start-of c .pre .0 .1)
 
-has-word-requires : tie.Need-has-word-requires
-has-word-requires c κs = search needs
-
-missing-requires : tie.Need-missing-requires
-missing-requires c κs = search needs
-
 returns : tie.Need-returns
 returns c = c .missing .ensures ∙ no-word _ _ _ _ _ (sym (c .before .before .has-word .ensures) ∙ not-true _ (c .before .if1 .taken))
-
-add-c : tie.Need-add-c
-add-c c = search needs
-
-has-count-requires : tie.Need-has-count-requires
-has-count-requires c κs = search needs
-
-missing-requires-2 : tie.Need-missing-requires-2
-missing-requires-2 c κs = search needs
 
 returns-2 : tie.Need-returns-2
 returns-2 c =
     let w = c .before .before .before in
     c .missing2 .ensures
     ∙ no-count _ _ _ _ _ (sym (w .before .has-word .ensures) ∙ not-false _ (w .if1 .left)) (sym (c .before .before .has-count .ensures) ∙ not-true _ (c .before .if2 .taken))
-
-digits-requires : tie.Need-digits-requires
-digits-requires c κs = search needs
 
 number-requires : tie.Need-number-requires
 number-requires c κs =
@@ -69,9 +51,6 @@ mul-n c = omega (arith, small c)
 
 has-numbers-requires : tie.Need-has-numbers-requires
 has-numbers-requires c κs = omega (arith, few c, small c)
-
-missing-requires-3 : tie.Need-missing-requires-3
-missing-requires-3 c κs = search needs
 
 returns-3 : tie.Need-returns-3
 returns-3 c =
@@ -99,22 +78,6 @@ returns-4 c =
 pub read-section-spec : {M : Type 1} → statement M
 read-section-spec =
     tie.close
-    (tie.spec
-    has-word-requires
-    missing-requires
-    returns
-    add-c
-    has-count-requires
-    missing-requires-2
-    returns-2
-    digits-requires
-    number-requires
-    add-start
-    add-start-2
-    mul-n
-    has-numbers-requires
-    missing-requires-3
-    returns-3
-    mul-t13
-    add-t15
-    returns-4)
+    (tie.spec (search needs) (search needs) returns (search needs) (search needs) (search needs) returns-2
+    (search needs) number-requires add-start add-start-2 mul-n has-numbers-requires (search needs) returns-3 mul-t13
+    add-t15 returns-4)

@@ -9,46 +9,16 @@ use denote.Ref.{now}
 use Rattle.sheet_text.proofs.answer_sheet.Statement.{statement}
 use Rattle.sheet_text.proofs.answer_sheet.Tie as tie
 
-mul-n : tie.Need-mul-n
-mul-n c = search needs
-
-slice-aggregate-take-numbers : tie.Need-slice-aggregate-take-numbers
-slice-aggregate-take-numbers c = search needs
-
-take-numbers-requires : tie.Need-take-numbers-requires
-take-numbers-requires c κs = search needs
-
-slice-aggregate-take-numbers-2 : tie.Need-slice-aggregate-take-numbers-2
-slice-aggregate-take-numbers-2 c = search needs
-
-take-numbers-requires-2 : tie.Need-take-numbers-requires-2
-take-numbers-requires-2 c κs = search needs
-
-array-share-prefix-points : tie.Need-array-share-prefix-points
-array-share-prefix-points c = search needs
-
 slice-aggregate-build : tie.Need-slice-aggregate-build
 slice-aggregate-build c = sym (ap length (c .before .before .before .before .before .take-numbers .ensures) ∙ numbers-long _ _ _)
 
-array-share-prefix-knots : tie.Need-array-share-prefix-knots
-array-share-prefix-knots c = search needs
-
 slice-aggregate-build-2 : tie.Need-slice-aggregate-build-2
 slice-aggregate-build-2 c = sym (ap length (c .before .before .before .take-numbers2 .ensures) ∙ numbers-long _ _ _)
-
-build-requires : tie.Need-build-requires
-build-requires c κs = search needs
 
 put-built-requires : tie.Need-put-built-requires
 put-built-requires c κs =
     let l = c .before .before .before .before .before .before .before .before .before .before .before .before .before .before .before .before .before .pre .0 in
     omega (arith, l .parameters .0, l .parameters .1)
-
-same-length : tie.Need-same-length
-same-length c = search needs
-
-same-length-2 : tie.Need-same-length-2
-same-length-2 c = search needs
 
 returns : tie.Need-returns
 returns c =
@@ -63,18 +33,6 @@ returns c =
 pub answer-sheet-spec : {M : Type 1} → statement M
 answer-sheet-spec =
     tie.close
-    (tie.spec
-    mul-n
-    slice-aggregate-take-numbers
-    take-numbers-requires
-    slice-aggregate-take-numbers-2
-    take-numbers-requires-2
-    array-share-prefix-points
-    slice-aggregate-build
-    array-share-prefix-knots
-    slice-aggregate-build-2
-    build-requires
-    put-built-requires
-    same-length
-    same-length-2
-    returns)
+    (tie.spec (search needs) (search needs) (search needs) (search needs) (search needs) (search needs)
+    slice-aggregate-build (search needs) slice-aggregate-build-2 (search needs) put-built-requires (search needs)
+    (search needs) returns)

@@ -6,24 +6,6 @@ use Rattle.sheet_text.proofs.Putting.{joined}
 use Rattle.sheet_text.proofs.put_double.Statement.{statement}
 use Rattle.sheet_text.proofs.put_double.Tie as tie
 
-put-requires : tie.Need-put-requires
-put-requires c κs = search needs
-
-bits-of-requires : tie.Need-bits-of-requires
-bits-of-requires c κs = search needs
-
-hex-digits-requires : tie.Need-hex-digits-requires
-hex-digits-requires c κs = search needs
-
-slice-aggregate-put : tie.Need-slice-aggregate-put
-slice-aggregate-put c = search needs
-
-put-requires-2 : tie.Need-put-requires-2
-put-requires-2 c κs = search needs
-
-same-length : tie.Need-same-length
-same-length c = search needs
-
 returns : tie.Need-returns
 unfolding doubleText
 returns c =
@@ -34,11 +16,4 @@ returns c =
 pub put-double-spec : {M : Type 1} → statement M
 put-double-spec =
     tie.close
-    (tie.spec
-    put-requires
-    bits-of-requires
-    hex-digits-requires
-    slice-aggregate-put
-    put-requires-2
-    same-length
-    returns)
+    (tie.spec (search needs) (search needs) (search needs) (search needs) (search needs) (search needs) returns)

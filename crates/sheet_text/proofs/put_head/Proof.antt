@@ -6,30 +6,15 @@ use Rattle.sheet_text.proofs.Putting.{joined, few-decimal, head-short}
 use Rattle.sheet_text.proofs.put_head.Statement.{statement}
 use Rattle.sheet_text.proofs.put_head.Tie as tie
 
-slice-aggregate-put-number : tie.Need-slice-aggregate-put-number
-slice-aggregate-put-number c = search needs
-
-put-number-requires : tie.Need-put-number-requires
-put-number-requires c κs = search needs
-
-slice-aggregate-put-number-2 : tie.Need-slice-aggregate-put-number-2
-slice-aggregate-put-number-2 c = search needs
-
 put-number-requires-2 : tie.Need-put-number-requires-2
 put-number-requires-2 c κs =
     let s = c .before .before .before .before .before .before .before .before in
     omega (arith, few-decimal (s .args .points))
 
-slice-aggregate-put : tie.Need-slice-aggregate-put
-slice-aggregate-put c = search needs
-
 put-requires : tie.Need-put-requires
 put-requires c κs =
     let s = c .before .before .before .before .before .before .before .before .before .before .before .before .before in
     omega (arith, few-decimal (s .args .points), few-decimal (s .args .knots))
-
-same-length : tie.Need-same-length
-same-length c = search needs
 
 returns : tie.Need-returns
 unfolding headText
@@ -42,12 +27,5 @@ returns c =
 pub put-head-spec : {M : Type 1} → statement M
 put-head-spec =
     tie.close
-    (tie.spec
-    slice-aggregate-put-number
-    put-number-requires
-    slice-aggregate-put-number-2
-    put-number-requires-2
-    slice-aggregate-put
-    put-requires
-    same-length
-    returns)
+    (tie.spec (search needs) (search needs) (search needs) put-number-requires-2 (search needs) put-requires
+    (search needs) returns)

@@ -19,22 +19,10 @@ abbrev μ-loop : tie.MeasureT-loop
 loop-holds : tie.Need-loop-holds Inv-loop μ-loop
 loop-holds c = (search needs, printed-first _ (search needs))
 
-mul-double : tie.Need-mul-double Inv-loop μ-loop
-mul-double c = search needs
-
-add-double : tie.Need-add-double Inv-loop μ-loop
-add-double c = search needs
-
-double-requires : tie.Need-double-requires Inv-loop μ-loop
-double-requires c κs = search needs
-
 put-line-requires : tie.Need-put-line-requires Inv-loop μ-loop
 put-line-requires c κs =
     let p = c .before .before .before .loop .inv .1 in
     omega (arith, p .put .place, p .put .long, p .few)
-
-add-j : tie.Need-add-j Inv-loop μ-loop
-add-j c = search needs
 
 loop-less : tie.Need-loop-less Inv-loop μ-loop
 loop-less c = omega arith
@@ -59,16 +47,5 @@ returns c =
 pub put-lines-spec : {M : Type 1} → statement M
 put-lines-spec =
     tie.close
-    (tie.spec
-    Inv-loop
-    μ-loop
-    loop-holds
-    mul-double
-    add-double
-    double-requires
-    put-line-requires
-    add-j
-    loop-less
-    loop-again
-    same-length
-    returns)
+    (tie.spec Inv-loop μ-loop loop-holds (search needs) (search needs) (search needs) put-line-requires (search needs)
+    loop-less loop-again same-length returns)

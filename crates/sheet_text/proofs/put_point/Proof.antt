@@ -6,30 +6,15 @@ use Rattle.sheet_text.proofs.Putting.{joined, double-long}
 use Rattle.sheet_text.proofs.put_point.Statement.{statement}
 use Rattle.sheet_text.proofs.put_point.Tie as tie
 
-slice-aggregate-put-double : tie.Need-slice-aggregate-put-double
-slice-aggregate-put-double c = search needs
-
-put-double-requires : tie.Need-put-double-requires
-put-double-requires c κs = search needs
-
-slice-aggregate-put-double-2 : tie.Need-slice-aggregate-put-double-2
-slice-aggregate-put-double-2 c = search needs
-
 put-double-requires-2 : tie.Need-put-double-requires-2
 put-double-requires-2 c κs =
     let s = c .before .before .before .before .before .before .before .before in
     omega (arith, double-long (s .args .x))
 
-slice-aggregate-put : tie.Need-slice-aggregate-put
-slice-aggregate-put c = search needs
-
 put-requires : tie.Need-put-requires
 put-requires c κs =
     let s = c .before .before .before .before .before .before .before .before .before .before .before .before .before in
     omega (arith, double-long (s .args .x), double-long (s .args .y))
-
-same-length : tie.Need-same-length
-same-length c = search needs
 
 returns : tie.Need-returns
 unfolding pointText
@@ -40,12 +25,5 @@ returns c =
 pub put-point-spec : {M : Type 1} → statement M
 put-point-spec =
     tie.close
-    (tie.spec
-    slice-aggregate-put-double
-    put-double-requires
-    slice-aggregate-put-double-2
-    put-double-requires-2
-    slice-aggregate-put
-    put-requires
-    same-length
-    returns)
+    (tie.spec (search needs) (search needs) (search needs) put-double-requires-2 (search needs) put-requires
+    (search needs) returns)

@@ -6,22 +6,10 @@ use Rattle.sheet_text.proofs.Putting.{joined, few-decimal}
 use Rattle.sheet_text.proofs.put_refusal.Statement.{statement}
 use Rattle.sheet_text.proofs.put_refusal.Tie as tie
 
-slice-aggregate-put-number : tie.Need-slice-aggregate-put-number
-slice-aggregate-put-number c = search needs
-
-put-number-requires : tie.Need-put-number-requires
-put-number-requires c κs = search needs
-
-slice-aggregate-put : tie.Need-slice-aggregate-put
-slice-aggregate-put c = search needs
-
 put-requires : tie.Need-put-requires
 put-requires c κs =
     let s = c .before .before .before .before .before .before .before .before in
-    omega (arith, few-decimal (s .args .number))
-
-same-length : tie.Need-same-length
-same-length c = search needs
+    omega (arith, few-decimal (s .args .refusal .number))
 
 returns : tie.Need-returns
 unfolding refusalText
@@ -30,10 +18,4 @@ returns c = joined (c .before .before .before .before .before .before .before .p
 pub put-refusal-spec : {M : Type 1} → statement M
 put-refusal-spec =
     tie.close
-    (tie.spec
-    slice-aggregate-put-number
-    put-number-requires
-    slice-aggregate-put
-    put-requires
-    same-length
-    returns)
+    (tie.spec (search needs) (search needs) (search needs) put-requires (search needs) returns)

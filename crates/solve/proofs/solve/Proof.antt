@@ -6,22 +6,17 @@ use lib.ListN.{length, drop}
 use denote.Ref.{now}
 use borrow.Author.Tests.{lt-leb, le-leb}
 use Rattle.solve.specs.Rows.{rowsOf}
-use Rattle.solve.specs.Outcome.{solveOf, workOf}
+use Rattle.solve.specs.Outcome.{workOf}
+use Rattle.solve.specs.Buffer.{solveOf}
 use Rattle.solve.proofs.Flat.{flat-of-rows, rows-shaped-of}
 use Rattle.solve.proofs.Outcomes.{fits-true}
 use borrow.Author.Needs.{needs}
 use Rattle.solve.proofs.solve.Statement.{statement}
 use Rattle.solve.proofs.solve.Tie as tie
 
-unsolved-requires : tie.Need-unsolved-requires
-unsolved-requires c κs = search needs
-
 returns : tie.Need-returns
 unfolding solveOf workOf
 returns c = (rw (lt-leb _ _ (c .before .if1 .taken)) (c .unsolved .ensures), rw (lt-leb _ _ (c .before .if1 .taken)))
-
-unsolved-requires-2 : tie.Need-unsolved-requires-2
-unsolved-requires-2 c κs = search needs
 
 returns-2 : tie.Need-returns-2
 unfolding solveOf workOf
@@ -29,16 +24,10 @@ returns-2 c =
     let low = le-leb _ _ (c .before .before .if1 .left) in
     (rw (low, lt-leb _ _ (c .before .if2 .taken)) (c .unsolved2 .ensures), rw (low, lt-leb _ _ (c .before .if2 .taken)))
 
-add-if3 : tie.Need-add-if3
-add-if3 c = search needs
-
 mul-if3 : tie.Need-mul-if3
 mul-if3 c =
     let m = c .before .before .before .args .m in
     omega (arith, mul-le-mul-right (m + 2) (c .if2 .left))
-
-unsolved-requires-3 : tie.Need-unsolved-requires-3
-unsolved-requires-3 c κs = search needs
 
 returns-3 : tie.Need-returns-3
 unfolding solveOf workOf
@@ -46,12 +35,6 @@ returns-3 c =
     let low = le-leb _ _ (c .before .before .before .if1 .left) in
     let high = le-leb _ _ (c .before .before .if2 .left) in
     (rw (low, high, lt-leb _ _ (c .before .if3 .taken)) (c .unsolved3 .ensures), rw (low, high, lt-leb _ _ (c .before .if3 .taken)))
-
-solve-lent-requires : tie.Need-solve-lent-requires
-solve-lent-requires c κs = search needs
-
-same-length : tie.Need-same-length
-same-length c = search needs
 
 returns-4 : tie.Need-returns-4
 unfolding solveOf workOf
@@ -67,15 +50,5 @@ returns-4 c =
 pub solve-spec : {M : Type 1} → statement M
 solve-spec =
     tie.close
-    (tie.spec
-    unsolved-requires
-    returns
-    unsolved-requires-2
-    returns-2
-    add-if3
-    mul-if3
-    unsolved-requires-3
-    returns-3
-    solve-lent-requires
-    same-length
-    returns-4)
+    (tie.spec (search needs) returns (search needs) returns-2 (search needs) mul-if3 (search needs) returns-3
+    (search needs) (search needs) returns-4)

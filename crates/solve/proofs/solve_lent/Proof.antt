@@ -1,6 +1,7 @@
 -- `solve::solve_lent` meets its contract: the answers are copied out before the room is cleared.
-use Prim.Native.Nat.{_+_}
+use Prim.Native.Nat.{ℕ, _+_}
 use mathlib.Core.Path.{sym, _∙_}
+use mathlib.Core.Bool.{true}
 use Rattle.meaning.specs.Scalar.{plain}
 use Rattle.solve.specs.Substitution.{solved}
 use Rattle.solve.specs.Outcome.{solutionOf}
@@ -10,73 +11,41 @@ use borrow.Author.Needs.{needs}
 use Rattle.solve.proofs.solve_lent.Statement.{statement}
 use Rattle.solve.proofs.solve_lent.Tie as tie
 
-add-s : tie.Need-add-s
-add-s c = search needs
+-- where the room is cleared, after the solve and the two columns
+abbrev solved-at : tie.After-clear → tie.After-solve-rows
+solved-at c = c .before .before .before .before .before .before .before .before
 
-mul-room : tie.Need-mul-room
-mul-room c = search needs
-
-solve-rows-requires : tie.Need-solve-rows-requires
-solve-rows-requires c κs = search needs
-
-column-of-requires : tie.Need-column-of-requires
-column-of-requires c κs = search needs
-
-add-column-of : tie.Need-add-column-of
-add-column-of c = search needs
-
-column-of-requires-2 : tie.Need-column-of-requires-2
-column-of-requires-2 c κs = search needs
-
-clear-requires : tie.Need-clear-requires
-clear-requires c κs = search needs
-
-same-length : tie.Need-same-length
-same-length c = search needs
+abbrev rows-in : tie.After-clear → ℕ
+rows-in c = solved-at c .before .before .before .args .m
 
 returns : tie.Need-returns
 unfolding solutionOf
 returns c =
-    let m = c .before .before .before .before .before .before .before .before .before .before .before .before .before .before .args .m in
+    let k = c .before .before .before in
+    let m = rows-in k in
     λ M rest e sh.
     let N = solved plain m M in
-    let one = c .before .before .before .before .before .before .before .before .before .before .before .solve-rows .ensures M rest e sh in
-    let shN = solved-shaped plain m (m + 2) M sh in (
-      rw (sym (one .1) ∙ c .if1 .taken, c .if1 .taken, c .before .before .before .before .before .before .before .column-of .ensures N rest (one .0) shN, c .before .before .before .before .before .column-of2 .ensures N rest (one .0) shN),
-      c .before .before .before .clear .ensures ∙ rw (one .0, rest-of N rest m (m + 2) shN),
+    let one = solved-at k .solve-rows .ensures M rest e sh in
+    let shN = solved-shaped plain m (m + 2) M sh in
+    let xs = k .before .before .before .before .column-of .ensures N rest (one .0) shN in
+    let ys = k .before .before .column-of2 .ensures N rest (one .0) shN in (
+      rw (sym (one .1) ∙ c .if1 .taken, c .if1 .taken) (λ i. record { xs = xs i; ys = ys i; fine = true }),
+      k .clear .ensures ∙ rw (one .0, rest-of N rest m (m + 2) shN),
     )
-
-unsolved-requires : tie.Need-unsolved-requires
-unsolved-requires c κs = search needs
-
-same-length-2 : tie.Need-same-length-2
-same-length-2 c = search needs
 
 returns-2 : tie.Need-returns-2
 unfolding solutionOf
 returns-2 c =
-    let m = c .before .before .before .before .before .before .before .before .before .before .before .before .before .before .before .args .m in
+    let k = c .before .before .before .before in
+    let m = rows-in k in
     λ M rest e sh.
-    let N = solved plain m M in
-    let one = c .before .before .before .before .before .before .before .before .before .before .before .before .solve-rows .ensures M rest e sh in
-    let shN = solved-shaped plain m (m + 2) M sh in (
+    let one = solved-at k .solve-rows .ensures M rest e sh in (
       rw (sym (one .1) ∙ c .before .if1 .left) (c .unsolved .ensures),
-      c .before .before .before .before .clear .ensures ∙ rw (one .0, rest-of N rest m (m + 2) shN),
+      k .clear .ensures ∙ rw (one .0, rest-of (solved plain m M) rest m (m + 2) (solved-shaped plain m (m + 2) M sh)),
     )
 
 pub solve-lent-spec : {M : Type 1} → statement M
 solve-lent-spec =
     tie.close
-    (tie.spec
-    add-s
-    mul-room
-    solve-rows-requires
-    column-of-requires
-    add-column-of
-    column-of-requires-2
-    clear-requires
-    same-length
-    returns
-    unsolved-requires
-    same-length-2
-    returns-2)
+    (tie.spec (search needs) (search needs) (search needs) (search needs) (search needs) (search needs) (search needs)
+    (search needs) returns (search needs) (search needs) returns-2)

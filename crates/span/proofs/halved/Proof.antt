@@ -17,22 +17,10 @@ Inv-loop u n t e₀ e = (3 ≤ e .lo) × ((e .lo < e .hi) × ((e .hi ≤ n) × R
 abbrev μ-loop : tie.MeasureT-loop
 μ-loop u n t e₀ e = e .hi - e .lo
 
-mul-if1 : tie.Need-mul-if1 Inv-loop μ-loop
-mul-if1 c = search needs
-
-element-copy-out-if1 : tie.Need-element-copy-out-if1 Inv-loop μ-loop
-element-copy-out-if1 c = search needs
-
-sub-result : tie.Need-sub-result Inv-loop μ-loop
-sub-result c = search needs
-
 returns : tie.Need-returns Inv-loop μ-loop
 returns c =
     let a = c .before .before .args in
     (rw (opened (now (a .u)) (a .n) (a .t) (search needs) (search needs), c .if1 .taken), (search needs, search needs))
-
-element-copy-out-if2 : tie.Need-element-copy-out-if2 Inv-loop μ-loop
-element-copy-out-if2 c = search needs
 
 returns-2 : tie.Need-returns-2 Inv-loop μ-loop
 returns-2 c =
@@ -41,12 +29,6 @@ returns-2 c =
 
 loop-holds : tie.Need-loop-holds Inv-loop μ-loop
 loop-holds c = (search needs, (search needs, (search needs, begin apart _ width (narrow-falls _ _) _)))
-
-sub-if3 : tie.Need-sub-if3 Inv-loop μ-loop
-sub-if3 c = search needs
-
-narrowed-requires : tie.Need-narrowed-requires Inv-loop μ-loop
-narrowed-requires c κs = search needs
 
 loop-less : tie.Need-loop-less Inv-loop μ-loop
 loop-less c = rw (c .narrowed .ensures .0) (narrow-falls _ _ _ (lt-ltb _ _ (c .before .if3 .taken)))
@@ -77,18 +59,5 @@ returns-3 c =
 pub halved-spec : {M : Type 1} → statement M
 halved-spec =
     tie.close
-    (tie.spec
-    Inv-loop
-    μ-loop
-    mul-if1
-    element-copy-out-if1
-    sub-result
-    returns
-    element-copy-out-if2
-    returns-2
-    loop-holds
-    sub-if3
-    narrowed-requires
-    loop-less
-    loop-again
-    returns-3)
+    (tie.spec Inv-loop μ-loop (search needs) (search needs) (search needs) returns (search needs) returns-2 loop-holds
+    (search needs) (search needs) loop-less loop-again returns-3)

@@ -14,11 +14,5 @@ returns-2 : tie.Need-returns-2
 unfolding halvedOf
 returns-2 c = (rw (le-ltb _ _ (c .before .if1 .left), lt-ltb _ _ (c .if2 .taken)), (search needs, (search needs, λ h. omega arith)))
 
-halved-requires : tie.Need-halved-requires
-halved-requires c κs = search needs
-
-returns-3 : tie.Need-returns-3
-returns-3 c = search needs
-
 pub span-spec : {M : Type 1} → statement M
-span-spec = tie.close (tie.spec returns returns-2 halved-requires returns-3)
+span-spec = tie.close (tie.spec returns returns-2 (search needs) (search needs))

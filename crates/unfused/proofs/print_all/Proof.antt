@@ -14,30 +14,10 @@ abbrev μ-loop : tie.MeasureT-loop
 loop-holds : tie.Need-loop-holds Inv-loop μ-loop
 loop-holds c = omega arith
 
-print-at-requires : tie.Need-print-at-requires Inv-loop μ-loop
-print-at-requires c κs = search needs
-
-add-counter : tie.Need-add-counter Inv-loop μ-loop
-add-counter c = search needs
-
-loop-less : tie.Need-loop-less Inv-loop μ-loop
-loop-less c = search needs
-
-loop-again : tie.Need-loop-again Inv-loop μ-loop
-loop-again c = search needs
-
 returns : tie.Need-returns Inv-loop μ-loop
 returns c = tt
 
 pub print-all-spec : {M : Type 1} → statement M
 print-all-spec =
     tie.close
-    (tie.spec
-    Inv-loop
-    μ-loop
-    loop-holds
-    print-at-requires
-    add-counter
-    loop-less
-    loop-again
-    returns)
+    (tie.spec Inv-loop μ-loop loop-holds (search needs) (search needs) (search needs) (search needs) returns)

@@ -16,28 +16,7 @@ number (fin s m e) t = tt
 float-to-bits-print-hex : tie.Need-float-to-bits-print-hex
 float-to-bits-print-hex c = number (c .before .args .x) (subst T (sym (c .if1 .taken)) tt)
 
-print-hex-requires : tie.Need-print-hex-requires
-print-hex-requires c κs = search needs
-
-slice-aggregate-write-all : tie.Need-slice-aggregate-write-all
-slice-aggregate-write-all c = search needs
-
-write-all-requires : tie.Need-write-all-requires
-write-all-requires c κs = search needs
-
-returns : tie.Need-returns
-returns c = search needs
-
-returns-2 : tie.Need-returns-2
-returns-2 c = search needs
-
 pub print-double-spec : {M : Type 1} → statement M
 print-double-spec =
     tie.close
-    (tie.spec
-    float-to-bits-print-hex
-    print-hex-requires
-    slice-aggregate-write-all
-    write-all-requires
-    returns
-    returns-2)
+    (tie.spec float-to-bits-print-hex (search needs) (search needs) (search needs) (search needs) (search needs))

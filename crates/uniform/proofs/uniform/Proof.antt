@@ -26,21 +26,6 @@ returns-2 c = rw (le-leb _ _ (c .before .if1 .left), lt-leb _ _ (c .if2 .taken))
 loop-holds : tie.Need-loop-holds Inv-loop μ-loop
 loop-holds c = empty refl
 
-uniform-at-requires : tie.Need-uniform-at-requires Inv-loop μ-loop
-uniform-at-requires c κs = search needs
-
-mul-u : tie.Need-mul-u Inv-loop μ-loop
-mul-u c = search needs
-
-array-write-u : tie.Need-array-write-u Inv-loop μ-loop
-array-write-u c = search needs
-
-add-j : tie.Need-add-j Inv-loop μ-loop
-add-j c = search needs
-
-loop-less : tie.Need-loop-less Inv-loop μ-loop
-loop-less c = search needs
-
 loop-again : tie.Need-loop-again Inv-loop μ-loop
 loop-again c = filled (c .before .before .loop .inv) (search needs) (c .uniform-at .ensures)
 
@@ -51,16 +36,5 @@ returns-3 c = rw (le-leb _ _ (c .before .before .before .if1 .left), le-leb _ _ 
 pub uniform-spec : {M : Type 1} → statement M
 uniform-spec =
     tie.close
-    (tie.spec
-    Inv-loop
-    μ-loop
-    returns
-    returns-2
-    loop-holds
-    uniform-at-requires
-    mul-u
-    array-write-u
-    add-j
-    loop-less
-    loop-again
-    returns-3)
+    (tie.spec Inv-loop μ-loop returns returns-2 loop-holds (search needs) (search needs) (search needs) (search needs)
+    (search needs) loop-again returns-3)

@@ -11,12 +11,6 @@ returns : tie.Need-returns
 unfolding uniformAt
 returns c = rw (lt-ltb _ _ (c .if1 .taken))
 
-sub-i : tie.Need-sub-i
-sub-i c = search needs
-
-sub-spans : tie.Need-sub-spans
-sub-spans c = search needs
-
 int-to-float-result : tie.Need-int-to-float-result
 int-to-float-result c = held _ (omega arith)
 
@@ -26,9 +20,6 @@ int-to-float-result-2 c = held _ (omega arith)
 returns-2 : tie.Need-returns-2
 unfolding uniformAt
 returns-2 c = rw (le-ltb _ _ (c .before .before .before .if1 .left), lt-ltb _ _ (c .before .before .if2 .taken))
-
-add-if3 : tie.Need-add-if3
-add-if3 c = search needs
 
 returns-3 : tie.Need-returns-3
 unfolding uniformAt
@@ -41,13 +32,5 @@ returns-4 c = rw (le-ltb _ _ (c .before .before .if1 .left), le-ltb _ _ (c .befo
 pub uniform-at-spec : {M : Type 1} → statement M
 uniform-at-spec =
     tie.close
-    (tie.spec
-    returns
-    sub-i
-    sub-spans
-    int-to-float-result
-    int-to-float-result-2
-    returns-2
-    add-if3
-    returns-3
-    returns-4)
+    (tie.spec returns (search needs) (search needs) int-to-float-result int-to-float-result-2 returns-2 (search needs)
+    returns-3 returns-4)

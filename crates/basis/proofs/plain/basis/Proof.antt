@@ -12,25 +12,10 @@ returns c = basis-low plain _ _ _ _ (c .if1 .taken)
 returns-2 : tie.Need-returns-2
 returns-2 c = basis-high plain _ _ _ _ (search needs) (search needs)
 
-triangle-of-requires : tie.Need-triangle-of-requires
-triangle-of-requires c κs = search needs
-
-values-of-requires : tie.Need-values-of-requires
-values-of-requires c κs = search needs
-
 returns-3 : tie.Need-returns-3
 returns-3 c =
     derivatives-none plain _ _ _ _ (search needs) (c .before .before .triangle-of .ensures) (c .before .values-of .ensures)
     ∙ basis-in plain _ _ _ _ (search needs) (search needs)
-
-orders-of-requires : tie.Need-orders-of-requires
-orders-of-requires c κs = search needs
-
-functions-of-requires : tie.Need-functions-of-requires
-functions-of-requires c κs = search needs
-
-scaled-by-requires : tie.Need-scaled-by-requires
-scaled-by-requires c κs = search needs
 
 returns-4 : tie.Need-returns-4
 returns-4 c =
@@ -42,13 +27,5 @@ returns-4 c =
 pub basis-spec : {M : Type 1} → statement M
 basis-spec =
     tie.close
-    (tie.spec
-    returns
-    returns-2
-    triangle-of-requires
-    values-of-requires
-    returns-3
-    orders-of-requires
-    functions-of-requires
-    scaled-by-requires
+    (tie.spec returns returns-2 (search needs) (search needs) returns-3 (search needs) (search needs) (search needs)
     returns-4)

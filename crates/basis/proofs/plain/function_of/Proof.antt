@@ -20,35 +20,8 @@ Inv-loop ndu n r ders₀ coefs₀ end k₀ ders coefs k =
 abbrev μ-loop : tie.MeasureT-loop
 μ-loop ndu n r ders₀ coefs₀ end k₀ ders coefs k = end - k
 
-start-coefs-requires : tie.Need-start-coefs-requires Inv-loop μ-loop
-start-coefs-requires c κs = search needs
-
-add-end : tie.Need-add-end Inv-loop μ-loop
-add-end c = search needs
-
 loop-holds : tie.Need-loop-holds Inv-loop μ-loop
 loop-holds c = (refl, rw (c .start-coefs .ensures) (first (search needs)))
-
-order-of-requires : tie.Need-order-of-requires Inv-loop μ-loop
-order-of-requires c κs = search needs
-
-mul-ders : tie.Need-mul-ders Inv-loop μ-loop
-mul-ders c = search needs
-
-mul-ders-2 : tie.Need-mul-ders-2 Inv-loop μ-loop
-mul-ders-2 c = search needs
-
-index-1-ders : tie.Need-index-1-ders Inv-loop μ-loop
-index-1-ders c = search needs
-
-index-2-ders : tie.Need-index-2-ders Inv-loop μ-loop
-index-2-ders c = search needs
-
-add-k : tie.Need-add-k Inv-loop μ-loop
-add-k c = search needs
-
-loop-less : tie.Need-loop-less Inv-loop μ-loop
-loop-less c = search needs
 
 loop-again : tie.Need-loop-again Inv-loop μ-loop
 loop-again c =
@@ -62,18 +35,5 @@ returns c = ap (λ (s : Orders Float). s .ders) (last (c .before .loop .inv .1) 
 pub function-of-spec : {M : Type 1} → statement M
 function-of-spec =
     tie.close
-    (tie.spec
-    Inv-loop
-    μ-loop
-    start-coefs-requires
-    add-end
-    loop-holds
-    order-of-requires
-    mul-ders
-    mul-ders-2
-    index-1-ders
-    index-2-ders
-    add-k
-    loop-less
-    loop-again
-    returns)
+    (tie.spec Inv-loop μ-loop (search needs) (search needs) loop-holds (search needs) (search needs) (search needs)
+    (search needs) (search needs) (search needs) (search needs) loop-again returns)

@@ -16,15 +16,6 @@ abbrev μ-loop : tie.MeasureT-loop
 loop-holds : tie.Need-loop-holds Inv-loop μ-loop
 loop-holds c = first (search needs)
 
-function-of-requires : tie.Need-function-of-requires Inv-loop μ-loop
-function-of-requires c κs = search needs
-
-add-r : tie.Need-add-r Inv-loop μ-loop
-add-r c = search needs
-
-loop-less : tie.Need-loop-less Inv-loop μ-loop
-loop-less c = search needs
-
 loop-again : tie.Need-loop-again Inv-loop μ-loop
 loop-again c = next (c .before .before .loop .inv) (search needs) (c .function-of .ensures)
 
@@ -35,4 +26,4 @@ returns c = last (c .before .loop .inv) (search needs)
 pub functions-of-spec : {M : Type 1} → statement M
 functions-of-spec =
     tie.close
-    (tie.spec Inv-loop μ-loop loop-holds function-of-requires add-r loop-less loop-again returns)
+    (tie.spec Inv-loop μ-loop loop-holds (search needs) (search needs) (search needs) loop-again returns)

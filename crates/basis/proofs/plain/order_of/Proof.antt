@@ -5,18 +5,9 @@ use borrow.Author.Needs.{needs}
 use Rattle.basis.proofs.plain.order_of.Statement.{statement}
 use Rattle.basis.proofs.plain.order_of.Tie as tie
 
-first-coef-requires : tie.Need-first-coef-requires
-first-coef-requires c κs = search needs
-
-mid-coefs-requires : tie.Need-mid-coefs-requires
-mid-coefs-requires c κs = search needs
-
-last-coef-requires : tie.Need-last-coef-requires
-last-coef-requires c κs = search needs
-
 returns : tie.Need-returns
 returns c = order-of plain _ _ _ _ (c .before .before .before .before .first-coef .ensures) (c .before .before .before .mid-coefs .ensures) (c .before .before .last-coef .ensures)
 
 pub order-of-spec : {M : Type 1} → statement M
 order-of-spec =
-    tie.close (tie.spec first-coef-requires mid-coefs-requires last-coef-requires returns)
+    tie.close (tie.spec (search needs) (search needs) (search needs) returns)

@@ -18,26 +18,11 @@ Inv-loop n ders₀ factor₀ end k₀ ders factor k = (end ≡ n + 1) × At 1 (n
 abbrev μ-loop : tie.MeasureT-loop
 μ-loop n ders₀ factor₀ end k₀ ders factor k = end - k
 
-add-end : tie.Need-add-end Inv-loop μ-loop
-add-end c = search needs
-
 loop-holds : tie.Need-loop-holds Inv-loop μ-loop
 loop-holds c = (refl, first (search needs))
 
-scaled-row-requires : tie.Need-scaled-row-requires Inv-loop μ-loop
-scaled-row-requires c κs = search needs
-
-sub-factor : tie.Need-sub-factor Inv-loop μ-loop
-sub-factor c = search needs
-
 int-to-float-factor : tie.Need-int-to-float-factor Inv-loop μ-loop
 int-to-float-factor c = held _ (omega arith)
-
-add-k : tie.Need-add-k Inv-loop μ-loop
-add-k c = search needs
-
-loop-less : tie.Need-loop-less Inv-loop μ-loop
-loop-less c = search needs
 
 loop-again : tie.Need-loop-again Inv-loop μ-loop
 loop-again c =
@@ -51,15 +36,5 @@ returns c = ap (λ (s : Scaling Float). s .ders) (last (c .before .loop .inv .1)
 pub scaled-by-spec : {M : Type 1} → statement M
 scaled-by-spec =
     tie.close
-    (tie.spec
-    Inv-loop
-    μ-loop
-    add-end
-    loop-holds
-    scaled-row-requires
-    sub-factor
-    int-to-float-factor
-    add-k
-    loop-less
-    loop-again
-    returns)
+    (tie.spec Inv-loop μ-loop (search needs) loop-holds (search needs) (search needs) int-to-float-factor
+    (search needs) (search needs) loop-again returns)

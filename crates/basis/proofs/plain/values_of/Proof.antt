@@ -18,30 +18,6 @@ abbrev μ-loop : tie.MeasureT-loop
 loop-holds : tie.Need-loop-holds Inv-loop μ-loop
 loop-holds c = first (search needs)
 
-mul-ders : tie.Need-mul-ders Inv-loop μ-loop
-mul-ders c = search needs
-
-index-1-ders : tie.Need-index-1-ders Inv-loop μ-loop
-index-1-ders c = search needs
-
-index-2-ders : tie.Need-index-2-ders Inv-loop μ-loop
-index-2-ders c = search needs
-
-mul-ders-2 : tie.Need-mul-ders-2 Inv-loop μ-loop
-mul-ders-2 c = search needs
-
-index-1-ders-2 : tie.Need-index-1-ders-2 Inv-loop μ-loop
-index-1-ders-2 c = search needs
-
-index-2-ders-2 : tie.Need-index-2-ders-2 Inv-loop μ-loop
-index-2-ders-2 c = search needs
-
-add-j : tie.Need-add-j Inv-loop μ-loop
-add-j c = search needs
-
-loop-less : tie.Need-loop-less Inv-loop μ-loop
-loop-less c = search needs
-
 loop-again : tie.Need-loop-again Inv-loop μ-loop
 loop-again c = next (c .before .before .loop .inv) (search needs) refl
 
@@ -52,17 +28,5 @@ returns c = last (c .before .loop .inv) (search needs)
 pub values-of-spec : {M : Type 1} → statement M
 values-of-spec =
     tie.close
-    (tie.spec
-    Inv-loop
-    μ-loop
-    loop-holds
-    mul-ders
-    index-1-ders
-    index-2-ders
-    mul-ders-2
-    index-1-ders-2
-    index-2-ders-2
-    add-j
-    loop-less
-    loop-again
-    returns)
+    (tie.spec Inv-loop μ-loop loop-holds (search needs) (search needs) (search needs) (search needs) (search needs)
+    (search needs) (search needs) (search needs) loop-again returns)

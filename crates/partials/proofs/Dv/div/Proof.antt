@@ -4,12 +4,9 @@ use borrow.Author.Needs.{needs}
 use Rattle.partials.proofs.Dv.div.Statement.{statement}
 use Rattle.partials.proofs.Dv.div.Tie as tie
 
-zip-requires : tie.Need-zip-requires
-zip-requires c κs = search needs
-
 returns : tie.Need-returns
 unfolding divDv
 returns c = c .zip .ensures
 
 pub div-spec : {M : Type 1} → statement M
-div-spec = tie.close (tie.spec zip-requires returns)
+div-spec = tie.close (tie.spec (search needs) returns)

@@ -18,29 +18,8 @@ Inv-loop g n fine₀ k₀ fine k = At 0 n (λ i b. b && finite (getD g i nan)) f
 abbrev μ-loop : tie.MeasureT-loop
 μ-loop g n fine₀ k₀ fine k = n - k
 
-counted-requires : tie.Need-counted-requires Inv-loop μ-loop
-counted-requires c κs = search needs
-
-is-finite-requires : tie.Need-is-finite-requires Inv-loop μ-loop
-is-finite-requires c κs = search needs
-
 loop-holds : tie.Need-loop-holds Inv-loop μ-loop
 loop-holds c = first (search needs)
-
-mul-is-finite : tie.Need-mul-is-finite Inv-loop μ-loop
-mul-is-finite c = search needs
-
-array-read-is-finite : tie.Need-array-read-is-finite Inv-loop μ-loop
-array-read-is-finite c = search needs
-
-is-finite-requires-2 : tie.Need-is-finite-requires-2 Inv-loop μ-loop
-is-finite-requires-2 c κs = search needs
-
-add-k : tie.Need-add-k Inv-loop μ-loop
-add-k c = search needs
-
-loop-less : tie.Need-loop-less Inv-loop μ-loop
-loop-less c = search needs
 
 loop-again : tie.Need-loop-again Inv-loop μ-loop
 loop-again c =
@@ -58,16 +37,5 @@ returns c =
 pub is-fine-spec : {M : Type 1} → statement M
 is-fine-spec =
     tie.close
-    (tie.spec
-    Inv-loop
-    μ-loop
-    counted-requires
-    is-finite-requires
-    loop-holds
-    mul-is-finite
-    array-read-is-finite
-    is-finite-requires-2
-    add-k
-    loop-less
-    loop-again
-    returns)
+    (tie.spec Inv-loop μ-loop (search needs) (search needs) loop-holds (search needs) (search needs) (search needs)
+    (search needs) (search needs) loop-again returns)

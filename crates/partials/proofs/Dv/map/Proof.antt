@@ -4,15 +4,9 @@ use borrow.Author.Needs.{needs}
 use Rattle.partials.proofs.Dv.map.Statement.{statement}
 use Rattle.partials.proofs.Dv.map.Tie as tie
 
-counted-requires : tie.Need-counted-requires
-counted-requires c κs = search needs
-
-scaled-requires : tie.Need-scaled-requires
-scaled-requires c κs = search needs
-
 returns : tie.Need-returns
 unfolding mapDv
 returns c = rw (c .scaled .ensures, c .before .before .counted .ensures .0)
 
 pub map-spec : {M : Type 1} → statement M
-map-spec = tie.close (tie.spec counted-requires scaled-requires returns)
+map-spec = tie.close (tie.spec (search needs) (search needs) returns)

@@ -4,12 +4,9 @@ use borrow.Author.Needs.{needs}
 use Rattle.partials.proofs.Dv.mul.Statement.{statement}
 use Rattle.partials.proofs.Dv.mul.Tie as tie
 
-zip-requires : tie.Need-zip-requires
-zip-requires c κs = search needs
-
 returns : tie.Need-returns
 unfolding mulDv
 returns c = c .zip .ensures
 
 pub mul-spec : {M : Type 1} → statement M
-mul-spec = tie.close (tie.spec zip-requires returns)
+mul-spec = tie.close (tie.spec (search needs) returns)

@@ -5,28 +5,13 @@ use borrow.Author.Needs.{needs}
 use Rattle.partials.proofs.Dv.overshoot.Statement.{statement}
 use Rattle.partials.proofs.Dv.overshoot.Tie as tie
 
-cst-requires : tie.Need-cst-requires
-cst-requires c κs = search needs
-
-sub-requires : tie.Need-sub-requires
-sub-requires c κs = search needs
-
 returns : tie.Need-returns
 unfolding overshootDv
 returns c = c .sub .ensures ∙ rw (c .before .cst .ensures, c .before .before .if1 .taken)
 
-cst-requires-2 : tie.Need-cst-requires-2
-cst-requires-2 c κs = search needs
-
-sub-requires-2 : tie.Need-sub-requires-2
-sub-requires-2 c κs = search needs
-
 returns-2 : tie.Need-returns-2
 unfolding overshootDv
 returns-2 c = c .sub2 .ensures ∙ rw (c .before .cst2 .ensures, c .before .before .before .before .if1 .left, c .before .before .if2 .taken)
-
-cst-requires-3 : tie.Need-cst-requires-3
-cst-requires-3 c κs = search needs
 
 returns-3 : tie.Need-returns-3
 unfolding overshootDv
@@ -35,12 +20,4 @@ returns-3 c = c .cst3 .ensures ∙ rw (c .before .before .before .if1 .left, c .
 pub overshoot-spec : {M : Type 1} → statement M
 overshoot-spec =
     tie.close
-    (tie.spec
-    cst-requires
-    sub-requires
-    returns
-    cst-requires-2
-    sub-requires-2
-    returns-2
-    cst-requires-3
-    returns-3)
+    (tie.spec (search needs) (search needs) returns (search needs) (search needs) returns-2 (search needs) returns-3)

@@ -4,12 +4,9 @@ use borrow.Author.Needs.{needs}
 use Rattle.partials.proofs.Dv.sub.Statement.{statement}
 use Rattle.partials.proofs.Dv.sub.Tie as tie
 
-zip-requires : tie.Need-zip-requires
-zip-requires c κs = search needs
-
 returns : tie.Need-returns
 unfolding subDv
 returns c = c .zip .ensures
 
 pub sub-spec : {M : Type 1} → statement M
-sub-spec = tie.close (tie.spec zip-requires returns)
+sub-spec = tie.close (tie.spec (search needs) returns)

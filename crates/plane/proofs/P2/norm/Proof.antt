@@ -6,20 +6,11 @@ use borrow.Author.Needs.{needs}
 use Rattle.plane.proofs.P2.norm.Statement.{statement}
 use Rattle.plane.proofs.P2.norm.Tie as tie
 
-dot-requires : tie.Need-dot-requires
-dot-requires c κs = search needs
-
-root-requires : tie.Need-root-requires
-root-requires c κs = search needs
-
 returns : tie.Need-returns
 returns c = c .root .ensures ∙ norm-near plain _ (c .before .before .dot .ensures) (c .before .if1 .taken)
-
-root-requires-2 : tie.Need-root-requires-2
-root-requires-2 c κs = search needs
 
 returns-2 : tie.Need-returns-2
 returns-2 c = c .root2 .ensures ∙ norm-far plain _ (c .before .before .dot .ensures) (c .before .if1 .left)
 
 pub norm-spec : {M : Type 1} → statement M
-norm-spec = tie.close (tie.spec dot-requires root-requires returns root-requires-2 returns-2)
+norm-spec = tie.close (tie.spec (search needs) (search needs) returns (search needs) returns-2)

@@ -5,9 +5,6 @@ use borrow.Author.Needs.{needs}
 use Rattle.plane.proofs.P2.unit.Statement.{statement}
 use Rattle.plane.proofs.P2.unit.Tie as tie
 
-norm-requires : tie.Need-norm-requires
-norm-requires c κs = search needs
-
 returns : tie.Need-returns
 returns c = unit-none plain _ (c .before .norm .ensures) (c .if1 .taken)
 
@@ -15,4 +12,4 @@ returns-2 : tie.Need-returns-2
 returns-2 c = unit-some plain _ (c .before .before .before .norm .ensures) (c .before .before .if1 .left)
 
 pub unit-spec : {M : Type 1} → statement M
-unit-spec = tie.close (tie.spec norm-requires returns returns-2)
+unit-spec = tie.close (tie.spec (search needs) returns returns-2)

@@ -6,22 +6,10 @@ use borrow.Author.Needs.{needs}
 use Rattle.plane.proofs.P2d.norm.Statement.{statement}
 use Rattle.plane.proofs.P2d.norm.Tie as tie
 
-dot-requires : tie.Need-dot-requires
-dot-requires c κs = search needs
-
-root-requires : tie.Need-root-requires
-root-requires c κs = search needs
-
-cst-requires : tie.Need-cst-requires
-cst-requires c κs = search needs
-
 returns : tie.Need-returns
 returns c =
     let test = c .before .before in
     c .cst .ensures ∙ rw (c .before .root .ensures) (norm-near dual _ (test .before .before .dot .ensures) (test .if1 .taken))
-
-root-requires-2 : tie.Need-root-requires-2
-root-requires-2 c κs = search needs
 
 returns-2 : tie.Need-returns-2
 returns-2 c =
@@ -30,4 +18,4 @@ returns-2 c =
 
 pub norm-spec : {M : Type 1} → statement M
 norm-spec =
-    tie.close (tie.spec dot-requires root-requires cst-requires returns root-requires-2 returns-2)
+    tie.close (tie.spec (search needs) (search needs) (search needs) returns (search needs) returns-2)

@@ -3,14 +3,8 @@ use borrow.Author.Needs.{needs}
 use Rattle.plane.proofs.P2d.scale.Statement.{statement}
 use Rattle.plane.proofs.P2d.scale.Tie as tie
 
-mul-requires : tie.Need-mul-requires
-mul-requires c κs = search needs
-
-mul-requires-2 : tie.Need-mul-requires-2
-mul-requires-2 c κs = search needs
-
 returns : tie.Need-returns
 returns c = rw (c .mul2 .ensures, c .before .mul .ensures)
 
 pub scale-spec : {M : Type 1} → statement M
-scale-spec = tie.close (tie.spec mul-requires mul-requires-2 returns)
+scale-spec = tie.close (tie.spec (search needs) (search needs) returns)

@@ -3,14 +3,8 @@ use borrow.Author.Needs.{needs}
 use Rattle.plane.proofs.P2d.sub.Statement.{statement}
 use Rattle.plane.proofs.P2d.sub.Tie as tie
 
-sub-requires : tie.Need-sub-requires
-sub-requires c κs = search needs
-
-sub-requires-2 : tie.Need-sub-requires-2
-sub-requires-2 c κs = search needs
-
 returns : tie.Need-returns
 returns c = rw (c .sub2 .ensures, c .before .sub .ensures)
 
 pub sub-spec : {M : Type 1} → statement M
-sub-spec = tie.close (tie.spec sub-requires sub-requires-2 returns)
+sub-spec = tie.close (tie.spec (search needs) (search needs) returns)

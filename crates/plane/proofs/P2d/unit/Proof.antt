@@ -5,25 +5,10 @@ use borrow.Author.Needs.{needs}
 use Rattle.plane.proofs.P2d.unit.Statement.{statement}
 use Rattle.plane.proofs.P2d.unit.Tie as tie
 
-norm-requires : tie.Need-norm-requires
-norm-requires c κs = search needs
-
-cst-requires : tie.Need-cst-requires
-cst-requires c κs = search needs
-
-cst-requires-2 : tie.Need-cst-requires-2
-cst-requires-2 c κs = search needs
-
 returns : tie.Need-returns
 returns c =
     let test = c .before .before in
     rw (c .cst2 .ensures, c .before .cst .ensures) (unit-none dual _ (test .before .before .norm .ensures) (test .if1 .taken))
-
-div-requires : tie.Need-div-requires
-div-requires c κs = search needs
-
-div-requires-2 : tie.Need-div-requires-2
-div-requires-2 c κs = search needs
 
 returns-2 : tie.Need-returns-2
 returns-2 c =
@@ -33,11 +18,4 @@ returns-2 c =
 pub unit-spec : {M : Type 1} → statement M
 unit-spec =
     tie.close
-    (tie.spec
-    norm-requires
-    cst-requires
-    cst-requires-2
-    returns
-    div-requires
-    div-requires-2
-    returns-2)
+    (tie.spec (search needs) (search needs) (search needs) returns (search needs) (search needs) returns-2)

@@ -25,19 +25,18 @@ record Done (m n s col r : ℕ) (p : List Float) (M : List (List Float)) (rest w
   shape : Shaped m s (blend r (reducedRows plain m n col p M) M)
 
 abbrev Inv-loop : tie.InvT-loop
-Inv-loop w₀ p m n s col fine₀ first r₀ w fine r = ofRows m s w₀ (λ M rest. Done m n s col r p M rest w fine) × (col < r) × (r ≤ m) × (length w ≡ length w₀)
+Inv-loop w₀ p m n s col fine₀ first r₀ w fine r =
+    ofRows m s w₀ (λ M rest. Done m n s col r p M rest w fine) × (col < r) × (r ≤ m) × (length w ≡ length w₀)
 
 abbrev μ-loop : tie.MeasureT-loop
 μ-loop w₀ p m n s col fine₀ first r₀ w fine r = m - r
 
-add-first : tie.Need-add-first Inv-loop μ-loop
-add-first c = search needs
-
 loop-holds : tie.Need-loop-holds Inv-loop μ-loop
 loop-holds c =
-    let a = c .before .before .args in (
+    let b = c .before .before in
+    let a = b .args in (
       λ M rest e sh.
-          let same = rows-start plain (a .n) (a .col) (a .p .now) (a .m) M (c .before .before .pre .0) (sh .count) in
+          let same = rows-start plain (a .n) (a .col) (a .p .now) (a .m) M (b .pre .0) (sh .count) in
           record {
             rows = e ∙ ap (λ (N : List (List Float)). flat N rest) same;
             verdict = rows-fine-start plain (a .n) (a .col) (a .p .now) (a .m) M;
@@ -48,69 +47,48 @@ loop-holds c =
       refl,
     )
 
-reduce-at-requires : tie.Need-reduce-at-requires Inv-loop μ-loop
-reduce-at-requires c κs = search needs
-
-both-requires : tie.Need-both-requires Inv-loop μ-loop
-both-requires c κs = search needs
-
-add-r : tie.Need-add-r Inv-loop μ-loop
-add-r c = search needs
-
-loop-less : tie.Need-loop-less Inv-loop μ-loop
-loop-less c = search needs
-
 loop-again : tie.Need-loop-again Inv-loop μ-loop
 loop-again c =
-    let a = c .before .before .before .before .before .before .before .before .before .args in
-    let l = c .before .before .before .before .before .before .loop in
-    let t = c .before .before .before .before .before .loop-test .taken in
-    let call = c .before .before .before .reduce-at in (
+    let call = c .before .before .before .reduce-at in
+    let t = c .before .before .before .before .before in
+    let l = t .before .loop in
+    let h = t .loop-test .taken in
+    let a = t .before .before .before .before .args in
+    let p = a .p .now in (
       λ M rest e sh.
-          let N = blend (l .r) (reducedRows plain (a .m) (a .n) (a .col) (a .p .now) M) M in
+          let x = getD (blend (l .r) (reducedRows plain (a .m) (a .n) (a .col) p M) M) (l .r) [] in
           let old = l .inv .0 M rest e sh in
-          let new = call .ensures N rest (old .rows) (old .shape) in
-          let row = rows-read plain (a .n) (a .col) (a .p .now) (a .m) M (l .r) (sh .count) in
-          let turn = rows-turn plain (a .n) (a .col) (a .p .now) (a .m) M (l .r) (l .inv .1) t (sh .count) in
+          let new = call .ensures _ rest (old .rows) (old .shape) in
+          let row = rows-read plain (a .n) (a .col) p (a .m) M (l .r) (sh .count) in
+          let test = new .1 ∙ ap (reducedOk plain (a .n) (a .col) p) row ∙ rows-fine-at plain (a .n) (a .col) p (a .m) M (l .r) (l .inv .1) in
+          let turn = rows-turn plain (a .n) (a .col) p (a .m) M (l .r) (l .inv .1) h (sh .count) in
           record {
             rows = new .0 ∙ ap (λ (K : List (List Float)). flat K rest) turn;
-            verdict = every-next (rowFine plain (a .n) (a .col) (a .p .now) M) (l .r) (old .verdict)
-                (new .1 ∙ ap (reducedOk plain (a .n) (a .col) (a .p .now)) row ∙ rows-fine-at plain (a .n) (a .col) (a .p .now) (a .m) M (l .r) (l .inv .1)) (c .both .ensures);
-            shape = rw turn at (shaped-set (l .r) (reduced plain (a .n) (a .col) (a .p .now) (getD N (l .r) [])) (old .shape) t
-                (reduced-length plain (a .n) (a .col) (a .p .now) (getD N (l .r) []) ∙ old .shape .each (l .r) t));
+            verdict = every-next (rowFine plain (a .n) (a .col) p M) (l .r) (old .verdict) test (c .both .ensures);
+            shape = rw turn at
+                (shaped-set (l .r) (reduced plain (a .n) (a .col) p x) (old .shape) h (reduced-length plain (a .n) (a .col) p x ∙ old .shape .each (l .r) h));
           },
       search needs,
       search needs,
       omega (arith, call .kept),
     )
 
-same-length : tie.Need-same-length Inv-loop μ-loop
-same-length c = search needs
-
 returns : tie.Need-returns Inv-loop μ-loop
 unfolding reducedRowsOk
 returns c =
     let a = c .before .before .before .before .args in
+    let p = a .p .now in
     let l = c .before .loop in
     let e : l .r ≡ a .m = omega arith in
     λ M rest q sh.
-    let done = l .inv .0 M rest q sh in (
-      done .rows ∙ ap (λ (N : List (List Float)). flat N rest) (blend-all (reducedRows plain (a .m) (a .n) (a .col) (a .p .now) M) M (l .r) (rows-length plain (a .n) (a .col) (a .p .now) (a .m) M ∙ sym (sh .count)) (omega (arith, sh .count))),
-      done .verdict ∙ ap (λ (n : ℕ). every n (rowFine plain (a .n) (a .col) (a .p .now) M)) e,
+    let done = l .inv .0 M rest q sh in
+    let all = blend-all _ M (l .r) (rows-length plain (a .n) (a .col) p (a .m) M ∙ sym (sh .count)) (omega (arith, sh .count)) in (
+      done .rows ∙ ap (λ (N : List (List Float)). flat N rest) all,
+      done .verdict ∙ ap (λ (n : ℕ). every n (rowFine plain (a .n) (a .col) p M)) e,
     )
 
 pub reduce-rows-spec : {M : Type 1} → statement M
 reduce-rows-spec =
     tie.close
-    (tie.spec
-    Inv-loop
-    μ-loop
-    add-first
-    loop-holds
-    reduce-at-requires
-    both-requires
-    add-r
-    loop-less
-    loop-again
-    same-length
-    returns)
+    (tie.spec Inv-loop μ-loop (search needs) loop-holds (search needs) (search needs) (search needs) (search needs)
+    loop-again (search needs) returns)

@@ -10,21 +10,6 @@ use borrow.Author.Needs.{needs}
 use Rattle.solve.proofs.dense.solve_rows.Statement.{statement}
 use Rattle.solve.proofs.dense.solve_rows.Tie as tie
 
-add-s : tie.Need-add-s
-add-s c = search needs
-
-eliminate-requires : tie.Need-eliminate-requires
-eliminate-requires c κs = search needs
-
-substitute-requires : tie.Need-substitute-requires
-substitute-requires c κs = search needs
-
-both-requires : tie.Need-both-requires
-both-requires c κs = search needs
-
-same-length : tie.Need-same-length
-same-length c = search needs
-
 returns : tie.Need-returns
 unfolding solved solvedOk
 returns c =
@@ -37,4 +22,4 @@ returns c =
 pub solve-rows-spec : {M : Type 1} → statement M
 solve-rows-spec =
     tie.close
-    (tie.spec add-s eliminate-requires substitute-requires both-requires same-length returns)
+    (tie.spec (search needs) (search needs) (search needs) (search needs) (search needs) returns)

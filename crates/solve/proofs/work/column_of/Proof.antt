@@ -1,5 +1,5 @@
 -- `solve::work::column_of` meets its contract: the rows passed are copied.
-use Prim.Native.Nat.{_≤_, _-_}
+use Prim.Native.Nat.{_+_, _-_, _*_, _≤_}
 use native.Mathlib.Omega.{arith}
 use mathlib.Core.Path.{_≡_, refl, sym, _∙_}
 use lib.ListN.{length}
@@ -15,7 +15,8 @@ use Rattle.solve.proofs.work.column_of.Statement.{statement}
 use Rattle.solve.proofs.work.column_of.Tie as tie
 
 abbrev Inv-loop : tie.InvT-loop
-Inv-loop w m s c out₀ r₀ out r = ofRows m s w (λ M rest. out ≡ blend r (column plain m M c (zeros plain)) (zeros plain)) × (r ≤ m) × (length out ≡ 66)
+Inv-loop w m s c out₀ r₀ out r =
+    ofRows m s w (λ M rest. out ≡ blend r (column plain m M c (zeros plain)) (zeros plain)) × (r ≤ m) × (length out ≡ 66)
 
 abbrev μ-loop : tie.MeasureT-loop
 μ-loop w m s c out₀ r₀ out r = m - r
@@ -23,29 +24,21 @@ abbrev μ-loop : tie.MeasureT-loop
 loop-holds : tie.Need-loop-holds Inv-loop μ-loop
 loop-holds c = (λ M rest e sh. refl, search needs, refl)
 
+-- row r ends within the rows
+room : (c : tie.In-loop Inv-loop μ-loop) → let a = c .before .before .args in c .before .loop .r * a .s + a .s ≤ a .m * a .s
+room c = row-le _ _ _ (c .loop-test .taken)
+
 mul-out : tie.Need-mul-out Inv-loop μ-loop
-mul-out c = omega (arith, row-le (c .before .loop .r) (c .before .before .args .m) (c .before .before .args .s) (c .loop-test .taken))
+mul-out c = omega (arith, room c)
 
 add-out : tie.Need-add-out Inv-loop μ-loop
-add-out c = omega (arith, row-le (c .before .loop .r) (c .before .before .args .m) (c .before .before .args .s) (c .loop-test .taken))
+add-out c = omega (arith, room c)
 
 mul-out-2 : tie.Need-mul-out-2 Inv-loop μ-loop
-mul-out-2 c = omega (arith, row-le (c .before .loop .r) (c .before .before .args .m) (c .before .before .args .s) (c .loop-test .taken))
+mul-out-2 c = omega (arith, room c)
 
 shared-slice-read-out : tie.Need-shared-slice-read-out Inv-loop μ-loop
-shared-slice-read-out c = omega (arith, row-le (c .before .before .loop .r) (c .before .before .before .args .m) (c .before .before .before .args .s) (c .before .loop-test .taken))
-
-mul-out-3 : tie.Need-mul-out-3 Inv-loop μ-loop
-mul-out-3 c = search needs
-
-array-write-out : tie.Need-array-write-out Inv-loop μ-loop
-array-write-out c = search needs
-
-add-r : tie.Need-add-r Inv-loop μ-loop
-add-r c = search needs
-
-loop-less : tie.Need-loop-less Inv-loop μ-loop
-loop-less c = search needs
+shared-slice-read-out c = omega (arith, room (c .before))
 
 loop-again : tie.Need-loop-again Inv-loop μ-loop
 loop-again c =
@@ -71,17 +64,5 @@ returns c =
 pub column-of-spec : {M : Type 1} → statement M
 column-of-spec =
     tie.close
-    (tie.spec
-    Inv-loop
-    μ-loop
-    loop-holds
-    mul-out
-    add-out
-    mul-out-2
-    shared-slice-read-out
-    mul-out-3
-    array-write-out
-    add-r
-    loop-less
-    loop-again
-    returns)
+    (tie.spec Inv-loop μ-loop loop-holds mul-out add-out mul-out-2 shared-slice-read-out (search needs) (search needs)
+    (search needs) (search needs) loop-again returns)

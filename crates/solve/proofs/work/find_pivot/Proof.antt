@@ -19,52 +19,46 @@ use Rattle.solve.proofs.work.find_pivot.Statement.{statement}
 use Rattle.solve.proofs.work.find_pivot.Tie as tie
 
 abbrev Inv-loop : tie.InvT-loop
-Inv-loop w m s k lo n best₀ top₀ first end r₀ best top r = (lo ≤ best) × (best < r) × (r ≤ end) × (top ≡ getD w (best * s + k) nan) × ofRows m s w (λ M rest. At (lo + 1) (lo + 1 + n) (better plain M k) lo r best)
+Inv-loop w m s k lo n best₀ top₀ first end r₀ best top r =
+    (lo ≤ best) × (best < r) × (r ≤ end) × (top ≡ getD w (best * s + k) nan)
+    × ofRows m s w (λ M rest. At (lo + 1) (lo + 1 + n) (better plain M k) lo r best)
 
 abbrev μ-loop : tie.MeasureT-loop
 μ-loop w m s k lo n best₀ top₀ first end r₀ best top r = end - r
 
+-- row lo ends within the rows, and so does the row that a turn reads
+room : (b : tie.Start Inv-loop μ-loop) → b .args .lo * b .args .s + b .args .s ≤ b .args .m * b .args .s
+room b = row-le (b .args .lo) (b .args .m) (b .args .s) (omega arith)
+
+below : (c : tie.In-loop Inv-loop μ-loop) → let a = c .before .before .before .before .args in c .before .loop .r * a .s + a .s ≤ a .m * a .s
+below c = row-le _ _ _ (omega arith)
+
 mul-top : tie.Need-mul-top Inv-loop μ-loop
-mul-top c = omega (arith, row-le (c .before .args .lo) (c .before .args .m) (c .before .args .s) (omega (arith, c .before .pre)))
+mul-top c = omega (arith, room (c .before))
 
 add-top : tie.Need-add-top Inv-loop μ-loop
-add-top c = omega (arith, row-le (c .before .args .lo) (c .before .args .m) (c .before .args .s) (omega (arith, c .before .pre)))
+add-top c = omega (arith, room (c .before))
 
 mul-top-2 : tie.Need-mul-top-2 Inv-loop μ-loop
-mul-top-2 c = omega (arith, row-le (c .before .args .lo) (c .before .args .m) (c .before .args .s) (omega (arith, c .before .pre)))
+mul-top-2 c = omega (arith, room (c .before))
 
 shared-slice-read-top : tie.Need-shared-slice-read-top Inv-loop μ-loop
-shared-slice-read-top c = omega (arith, row-le (c .before .before .args .lo) (c .before .before .args .m) (c .before .before .args .s) (omega (arith, c .before .before .pre)))
-
-add-first : tie.Need-add-first Inv-loop μ-loop
-add-first c = search needs
-
-add-end : tie.Need-add-end Inv-loop μ-loop
-add-end c = search needs
+shared-slice-read-top c = omega (arith, room (c .before .before))
 
 loop-holds : tie.Need-loop-holds Inv-loop μ-loop
 loop-holds c = (search needs, search needs, search needs, refl, λ M rest e sh. first (omega arith))
 
 mul-v : tie.Need-mul-v Inv-loop μ-loop
-mul-v c = omega (arith, row-le (c .before .loop .r) (c .before .before .before .before .args .m) (c .before .before .before .before .args .s) (omega (arith, c .before .before .before .before .pre)))
+mul-v c = omega (arith, below c)
 
 add-v : tie.Need-add-v Inv-loop μ-loop
-add-v c = omega (arith, row-le (c .before .loop .r) (c .before .before .before .before .args .m) (c .before .before .before .before .args .s) (omega (arith, c .before .before .before .before .pre)))
+add-v c = omega (arith, below c)
 
 mul-v-2 : tie.Need-mul-v-2 Inv-loop μ-loop
-mul-v-2 c = omega (arith, row-le (c .before .loop .r) (c .before .before .before .before .args .m) (c .before .before .before .before .args .s) (omega (arith, c .before .before .before .before .pre)))
+mul-v-2 c = omega (arith, below c)
 
 shared-slice-read-v : tie.Need-shared-slice-read-v Inv-loop μ-loop
-shared-slice-read-v c = omega (arith, row-le (c .before .before .loop .r) (c .before .before .before .before .before .args .m) (c .before .before .before .before .before .args .s) (omega (arith, c .before .before .before .before .before .pre)))
-
-at-least-requires : tie.Need-at-least-requires Inv-loop μ-loop
-at-least-requires c κs = search needs
-
-add-r : tie.Need-add-r Inv-loop μ-loop
-add-r c = search needs
-
-loop-less : tie.Need-loop-less Inv-loop μ-loop
-loop-less c = search needs
+shared-slice-read-v c = omega (arith, below (c .before))
 
 loop-again : tie.Need-loop-again Inv-loop μ-loop
 loop-again c =
@@ -75,7 +69,13 @@ loop-again c =
     let call = c .before .at-least in
     -- what the call compares, in terms of the rows
     let asked : ofRows (a .m) (a .s) (a .w .now) (λ M rest. call .result ≡ atLeast (at2 plain M (l .r) (a .k)) (at2 plain M (l .best) (a .k))) =
-    λ M rest e sh. call .ensures ∙ rw (l .inv .3, read-cell rest (a .w .now) (l .r) e sh (omega (arith, start .pre)) (a .k) (start .pre .1) nan, read-cell rest (a .w .now) (l .best) e sh (omega (arith, start .pre, l .inv)) (a .k) (start .pre .1) nan) in
+    λ M rest e sh.
+    call .ensures
+    ∙ rw (
+      l .inv .3,
+      read-cell rest (a .w .now) (l .r) e sh (omega (arith, start .pre)) (a .k) (start .pre .1) nan,
+      read-cell rest (a .w .now) (l .best) e sh (omega (arith, start .pre, l .inv)) (a .k) (start .pre .1) nan,
+    ) in
     ⊎-elim
     (λ w. (
       omega arith,
@@ -104,22 +104,5 @@ returns c =
 pub find-pivot-spec : {M : Type 1} → statement M
 find-pivot-spec =
     tie.close
-    (tie.spec
-    Inv-loop
-    μ-loop
-    mul-top
-    add-top
-    mul-top-2
-    shared-slice-read-top
-    add-first
-    add-end
-    loop-holds
-    mul-v
-    add-v
-    mul-v-2
-    shared-slice-read-v
-    at-least-requires
-    add-r
-    loop-less
-    loop-again
-    returns)
+    (tie.spec Inv-loop μ-loop mul-top add-top mul-top-2 shared-slice-read-top (search needs) (search needs) loop-holds
+    mul-v add-v mul-v-2 shared-slice-read-v (search needs) (search needs) (search needs) loop-again returns)

@@ -1,6 +1,6 @@
 -- `solve::work::load_at` meets its contract: the part that is lent is row r.
 use mathlib.Core.Path.{_≡_, sym, ap, _∙_}
-use Prim.Native.Nat.{ℕ, _+_, _*_, _-_}
+use Prim.Native.Nat.{ℕ, _+_, _*_, _-_, _≤_}
 use native.Mathlib.Omega.{arith}
 use lib.ListN.{length, take, drop}
 use denote.Ref.{now}
@@ -10,26 +10,21 @@ use borrow.Author.Needs.{needs}
 use Rattle.solve.proofs.work.load_at.Statement.{statement}
 use Rattle.solve.proofs.work.load_at.Tie as tie
 
+-- row r ends within the rows
+room : (b : tie.Start) → b .args .r * b .args .s + b .args .s ≤ b .args .m * b .args .s
+room b = row-le (b .args .r) (b .args .m) (b .args .s) (b .pre .0)
+
 mul-a : tie.Need-mul-a
-mul-a c = omega (arith, row-le (c .before .args .r) (c .before .args .m) (c .before .args .s) (c .before .pre .0))
+mul-a c = omega (arith, room (c .before))
 
 add-e : tie.Need-add-e
-add-e c = omega (arith, row-le (c .before .args .r) (c .before .args .m) (c .before .args .s) (c .before .pre .0))
+add-e c = omega (arith, room (c .before))
 
 mul-load-row : tie.Need-mul-load-row
-mul-load-row c = omega (arith, row-le (c .before .args .r) (c .before .args .m) (c .before .args .s) (c .before .pre .0))
-
-sub-load-row : tie.Need-sub-load-row
-sub-load-row c = search needs
-
-part-load-row-start : tie.Need-part-load-row-start
-part-load-row-start c = search needs
+mul-load-row c = omega (arith, room (c .before))
 
 part-load-row-end : tie.Need-part-load-row-end
-part-load-row-end c = omega (arith, row-le (c .before .args .r) (c .before .args .m) (c .before .args .s) (c .before .pre .0))
-
-load-row-requires : tie.Need-load-row-requires
-load-row-requires c κs = search needs
+part-load-row-end c = omega (arith, room (c .before))
 
 returns : tie.Need-returns
 returns c =
@@ -45,12 +40,4 @@ returns c =
 pub load-at-spec : {M : Type 1} → statement M
 load-at-spec =
     tie.close
-    (tie.spec
-    mul-a
-    add-e
-    mul-load-row
-    sub-load-row
-    part-load-row-start
-    part-load-row-end
-    load-row-requires
-    returns)
+    (tie.spec mul-a add-e mul-load-row (search needs) (search needs) part-load-row-end (search needs) returns)

@@ -18,34 +18,17 @@ Inv-loop t out₀ end k₀ out k = (take k out ≡ take k t) × (k ≤ length t)
 abbrev μ-loop : tie.MeasureT-loop
 μ-loop t out₀ end k₀ out k = length t - k
 
-loop-holds : tie.Need-loop-holds Inv-loop μ-loop
-loop-holds c = search needs
-
-mul-out : tie.Need-mul-out Inv-loop μ-loop
-mul-out c = search needs
-
-shared-slice-read-out : tie.Need-shared-slice-read-out Inv-loop μ-loop
-shared-slice-read-out c = search needs
-
-mul-out-2 : tie.Need-mul-out-2 Inv-loop μ-loop
-mul-out-2 c = search needs
-
-array-write-out : tie.Need-array-write-out Inv-loop μ-loop
-array-write-out c = search needs
-
-add-k : tie.Need-add-k Inv-loop μ-loop
-add-k c = search needs
-
-loop-less : tie.Need-loop-less Inv-loop μ-loop
-loop-less c = search needs
-
 loop-again : tie.Need-loop-again Inv-loop μ-loop
 loop-again c =
     let t = c .before .before .before .args .t .now in
     let l = c .before .before .loop in
     let inT : l .k < length t = search needs in
     let inO : l .k < length (l .out) = omega (arith, c .before .before .before .pre) in
-    (rw (add-one (l .k)) (take-suc-set (l .out) (l .k) (getD t (l .k) nan) inO ∙ ap (λ (q : List Float). q ++ getD t (l .k) nan ∷ []) (l .inv .0) ∙ sym (take-suc t (l .k) nan inT)), search needs, search needs)
+    let x = getD t (l .k) nan in (
+      rw (add-one (l .k)) (take-suc-set (l .out) (l .k) x inO ∙ ap (λ (q : List Float). q ++ x ∷ []) (l .inv .0) ∙ sym (take-suc t (l .k) nan inT)),
+      search needs,
+      search needs,
+    )
 
 returns : tie.Need-returns Inv-loop μ-loop
 returns c =
@@ -56,15 +39,5 @@ returns c =
 pub load-row-spec : {M : Type 1} → statement M
 load-row-spec =
     tie.close
-    (tie.spec
-    Inv-loop
-    μ-loop
-    loop-holds
-    mul-out
-    shared-slice-read-out
-    mul-out-2
-    array-write-out
-    add-k
-    loop-less
-    loop-again
-    returns)
+    (tie.spec Inv-loop μ-loop (search needs) (search needs) (search needs) (search needs) (search needs)
+    (search needs) (search needs) loop-again returns)

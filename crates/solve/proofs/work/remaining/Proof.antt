@@ -1,5 +1,5 @@
 -- `solve::work::remaining` meets its contract: the terms of the rows passed are taken off.
-use Prim.Native.Nat.{_≤_, _-_, _+_}
+use Prim.Native.Nat.{_+_, _-_, _*_, _≤_}
 use native.Mathlib.Omega.{arith}
 use mathlib.Core.Path.{_≡_, sym, _∙_}
 use lib.Ieee.{nan}
@@ -19,17 +19,24 @@ Inv-loop w m s r c d k base acc₀ i₀ acc i = (i ≤ k) × ofRows m s w (λ M 
 abbrev μ-loop : tie.MeasureT-loop
 μ-loop w m s r c d k base acc₀ i₀ acc i = k - i
 
+-- row r ends within the rows, and so does the row whose term a turn takes off
+room : (b : tie.Start Inv-loop μ-loop) → b .args .r * b .args .s + b .args .s ≤ b .args .m * b .args .s
+room b = row-le (b .args .r) (b .args .m) (b .args .s) (omega arith)
+
+below : (c : tie.In-loop Inv-loop μ-loop) → let a = c .before .before .before .args in (a .r + 1 + c .before .loop .i) * a .s + a .s ≤ a .m * a .s
+below c = row-le _ _ _ (omega arith)
+
 mul-base : tie.Need-mul-base Inv-loop μ-loop
-mul-base c = omega (arith, row-le (c .args .r) (c .args .m) (c .args .s) (omega (arith, c .pre)))
+mul-base c = omega (arith, room c)
 
 add-acc : tie.Need-add-acc Inv-loop μ-loop
-add-acc c = omega (arith, row-le (c .args .r) (c .args .m) (c .args .s) (omega (arith, c .pre)))
+add-acc c = omega (arith, room c)
 
 mul-acc : tie.Need-mul-acc Inv-loop μ-loop
-mul-acc c = omega (arith, row-le (c .args .r) (c .args .m) (c .args .s) (omega (arith, c .pre)))
+mul-acc c = omega (arith, room c)
 
 shared-slice-read-acc : tie.Need-shared-slice-read-acc Inv-loop μ-loop
-shared-slice-read-acc c = omega (arith, row-le (c .before .args .r) (c .before .args .m) (c .before .args .s) (omega (arith, c .before .pre)))
+shared-slice-read-acc c = omega (arith, room (c .before))
 
 loop-holds : tie.Need-loop-holds Inv-loop μ-loop
 loop-holds c =
@@ -37,44 +44,26 @@ loop-holds c =
     let p = c .before .pre in
     (search needs, λ M rest e sh. read-cell rest (a .w .now) (a .r) e sh (omega arith) (a .c) (p .1) nan ∙ sym (remains-none plain M (a .r) (a .c) (a .d)))
 
-add-acc-2 : tie.Need-add-acc-2 Inv-loop μ-loop
-add-acc-2 c = search needs
-
-add-acc-3 : tie.Need-add-acc-3 Inv-loop μ-loop
-add-acc-3 c = search needs
-
 mul-acc-2 : tie.Need-mul-acc-2 Inv-loop μ-loop
-mul-acc-2 c = omega (arith, row-le (c .before .before .before .args .r + 1 + c .before .loop .i) (c .before .before .before .args .m) (c .before .before .before .args .s) (omega (arith, c .before .before .before .pre)))
+mul-acc-2 c = omega (arith, below c)
 
 add-acc-4 : tie.Need-add-acc-4 Inv-loop μ-loop
-add-acc-4 c = omega (arith, row-le (c .before .before .before .args .r + 1 + c .before .loop .i) (c .before .before .before .args .m) (c .before .before .before .args .s) (omega (arith, c .before .before .before .pre)))
+add-acc-4 c = omega (arith, below c)
 
 mul-acc-3 : tie.Need-mul-acc-3 Inv-loop μ-loop
-mul-acc-3 c = omega (arith, row-le (c .before .before .before .args .r + 1 + c .before .loop .i) (c .before .before .before .args .m) (c .before .before .before .args .s) (omega (arith, c .before .before .before .pre)))
+mul-acc-3 c = omega (arith, below c)
 
 shared-slice-read-acc-2 : tie.Need-shared-slice-read-acc-2 Inv-loop μ-loop
-shared-slice-read-acc-2 c = omega (arith, row-le (c .before .before .before .before .args .r + 1 + c .before .before .loop .i) (c .before .before .before .before .args .m) (c .before .before .before .before .args .s) (omega (arith, c .before .before .before .before .pre)))
-
-add-acc-5 : tie.Need-add-acc-5 Inv-loop μ-loop
-add-acc-5 c = search needs
-
-add-acc-6 : tie.Need-add-acc-6 Inv-loop μ-loop
-add-acc-6 c = search needs
+shared-slice-read-acc-2 c = omega (arith, below (c .before))
 
 add-acc-7 : tie.Need-add-acc-7 Inv-loop μ-loop
-add-acc-7 c = omega (arith, row-le (c .before .before .before .before .args .r) (c .before .before .before .before .args .m) (c .before .before .before .before .args .s) (omega (arith, c .before .before .before .before .pre)))
+add-acc-7 c = omega (arith, room (c .before .before .before .before))
 
 mul-acc-4 : tie.Need-mul-acc-4 Inv-loop μ-loop
-mul-acc-4 c = omega (arith, row-le (c .before .before .before .before .args .r) (c .before .before .before .before .args .m) (c .before .before .before .before .args .s) (omega (arith, c .before .before .before .before .pre)))
+mul-acc-4 c = omega (arith, room (c .before .before .before .before))
 
 shared-slice-read-acc-3 : tie.Need-shared-slice-read-acc-3 Inv-loop μ-loop
-shared-slice-read-acc-3 c = omega (arith, row-le (c .before .before .before .before .before .args .r) (c .before .before .before .before .before .args .m) (c .before .before .before .before .before .args .s) (omega (arith, c .before .before .before .before .before .pre)))
-
-add-i : tie.Need-add-i Inv-loop μ-loop
-add-i c = search needs
-
-loop-less : tie.Need-loop-less Inv-loop μ-loop
-loop-less c = search needs
+shared-slice-read-acc-3 c = omega (arith, room (c .before .before .before .before .before))
 
 loop-again : tie.Need-loop-again Inv-loop μ-loop
 loop-again c =
@@ -84,7 +73,11 @@ loop-again c =
     let t = c .before .before .loop-test .taken in (
       search needs,
       λ M rest e sh.
-          rw (read-cell rest (a .w .now) (a .r + 1 + l .i) e sh (omega arith) (a .c) (p .1) nan, read-cell rest (a .w .now) (a .r) e sh (omega arith) (a .d + 1 + l .i) (omega arith) nan, l .inv .1 M rest e sh)
+          rw (
+            read-cell rest (a .w .now) (a .r + 1 + l .i) e sh (omega arith) (a .c) (p .1) nan,
+            read-cell rest (a .w .now) (a .r) e sh (omega arith) (a .d + 1 + l .i) (omega arith) nan,
+            l .inv .1 M rest e sh,
+          )
           (sym (remains-next plain M (a .r) (a .c) (a .d) (l .i))),
     )
 
@@ -98,26 +91,6 @@ returns c =
 pub remaining-spec : {M : Type 1} → statement M
 remaining-spec =
     tie.close
-    (tie.spec
-    Inv-loop
-    μ-loop
-    mul-base
-    add-acc
-    mul-acc
-    shared-slice-read-acc
-    loop-holds
-    add-acc-2
-    add-acc-3
-    mul-acc-2
-    add-acc-4
-    mul-acc-3
-    shared-slice-read-acc-2
-    add-acc-5
-    add-acc-6
-    add-acc-7
-    mul-acc-4
-    shared-slice-read-acc-3
-    add-i
-    loop-less
-    loop-again
-    returns)
+    (tie.spec Inv-loop μ-loop mul-base add-acc mul-acc shared-slice-read-acc loop-holds (search needs) (search needs)
+    mul-acc-2 add-acc-4 mul-acc-3 shared-slice-read-acc-2 (search needs) (search needs) add-acc-7 mul-acc-4
+    shared-slice-read-acc-3 (search needs) (search needs) loop-again returns)

@@ -1,0 +1,131 @@
+-- A build answered in slices: where a rule applies nothing is written, else all is. Assumes nothing.
+use mathlib.Core.Path.{_≡_, refl, sym, ap, _∙_}
+use mathlib.Core.Bool.{Bool, true, false, _||_, cond}
+use mathlib.Core.List.{List}
+use Prim.Native.Nat.{ℕ, zero, suc, _+_, _-_, _*_, _≤_, zero-le}
+use native.Mathlib.Omega.{arith}
+use borrow.Author.Tests.{ltb-false, eqb-true}
+use lib.Dec.{ltb}
+use lib.ListN.{length, set, replicate, length-set, take, length-take}
+use lib.Seq.{paste, paste-zero}
+use lib.Ieee.{Float}
+use Rattle.meaning.specs.Scalar.{plain, zero64}
+use Rattle.meaning.specs.Table.{at1}
+use Rattle.meaning.specs.Loops.{turns}
+use Rattle.meaning.proofs.Tests.{or-left, or-right}
+use Rattle.refusal.specs.Refusals.{Row, passes}
+use Rattle.refusal.proofs.Rows.{Passed}
+use Rattle.knots.specs.declared.Form.{Form}
+use Rattle.knots.specs.declared.Form.the-variants.{Control, Fit}
+use Rattle.knots.proofs.Accepted.{Accepted}
+use Rattle.buffer.specs.Pasted.{pasted}
+use Rattle.outcome.specs.Outcome.{answering}
+use Rattle.outcome.proofs.Doors.{put-all}
+use Rattle.shape.proofs.Trusted.{trusted}
+use Rattle.curve.specs.declared.Curve.{Curve}
+use Rattle.curve.specs.declared.Built.{Built}
+use Rattle.curve.specs.Record.{emptyCurve, byRecord}
+use Rattle.curve.specs.Build.{building}
+use Rattle.curve.proofs.Builds.{built-refusal, build-parts}
+use Rattle.fit.specs.Fit.{curveThrough, Making, making}
+use Rattle.build.specs.Build.{curveOf, storedFine, controlsIn, lacksWork, rulesOf, builtBy, inTurn, lacksRoom, sliced, builtInto}
+use Rattle.build.proofs.Doors.{rechecked}
+
+-- the room of the control points in turn
+module _ (xs ys : List Float) where
+  abbrev turn : ℕ → List Float → List Float
+  turn i l = set (set l (2 * i) (at1 plain xs i)) (2 * i + 1) (at1 plain ys i)
+
+  kept : (k : ℕ) → length (turns 0 k turn (replicate 132 zero64)) ≡ 132
+  unfolding turns
+  kept zero = refl
+  kept (suc k) = simp length-set (kept k)
+
+  length-in-turn : (n : ℕ) → length (inTurn n xs ys) ≡ 132
+  unfolding inTurn
+  length-in-turn n = kept (n - 0)
+
+-- none of the numbers is put
+put-none : (numbers out : List Float) → pasted numbers 0 out 0 ≡ out
+put-none numbers out = put-all numbers 0 out zero-le zero-le ∙ sym (paste-zero out 0 numbers)
+
+-- the counts of the curve are those that room is asked for
+points-are : (form : Form) (coords : List Float) (given : Bool) (ks : List Float) → curveOf form coords given ks .points ≡ controlsIn form coords
+unfolding curveThrough
+points-are Control coords given ks = refl
+points-are Fit coords given ks = refl
+
+knots-are : (form : Form) (coords : List Float) (given : Bool) (ks : List Float) → curveOf form coords given ks .«knot_count» ≡ controlsIn form coords + 4
+unfolding curveThrough
+knots-are Control coords given ks = refl
+knots-are Fit coords given ks = refl
+
+-- What is built is the curve or, where a rule applies, empty: then nothing is put. Where none applies there is room.
+module _ (form : Form) (coords : List Float) (given : Bool) (ks work control out : List Float) where
+  abbrev short : Bool
+  short = lacksWork form coords work || lacksRoom form coords control out
+
+  abbrev rules : List Row
+  rules = rulesOf form coords given ks short
+
+  abbrev curve : Curve
+  curve = curveOf form coords given ks
+
+  abbrev m : ℕ
+  m = controlsIn form coords
+
+  module _ (passed : Passed rules) where
+    sound : Accepted (take (curve .points + 4) (curve .knots)) (curve .points)
+    sound = trusted _ (byRecord curve .shape) (rechecked form coords given ks short passed)
+
+    few : m ≤ 66
+    few = omega (arith, sound .room, points-are form coords given ks)
+
+    stored : m + 4 ≤ length (curve .knots)
+    stored = omega (arith, sound .sound .long, length-take (curve .points + 4) (curve .knots), points-are form coords given ks)
+
+    room : lacksRoom form coords control out ≡ false
+    room = or-right (lacksWork form coords work) _ (build-parts form coords given ks short (storedFine form coords given ks) passed .1)
+
+  module _ {work′ : List Float} {b : Built} {lacks : Bool} (told : lacks ≡ lacksRoom form coords control out)
+      (answer : making b work′ ≡ builtBy form coords given ks (lacksWork form coords work || lacks) work) where
+    whole : making b work′ ≡ builtBy form coords given ks short work
+    whole = answer ∙ ap (λ (t : Bool). builtBy form coords given ks (lacksWork form coords work || t) work) told
+
+    is-built : b ≡ building rules curve
+    is-built = ap (λ (x : Making). x .built) whole
+
+    pub points-few : b .curve .points ≤ 66
+    unfolding building
+    points-few = rw is-built (by (passes rules) refl)
+      where
+        by : (t : Bool) → passes rules ≡ t → cond t curve emptyCurve .points ≤ 66
+        by true h = sound (eqb-true _ _ h) .room
+        by false h = zero-le
+
+    -- numbers of what is built, of which there is none in the empty curve
+    put-built : (numbers : Curve → List Float) (count : Curve → ℕ) (l : List Float) {l′ N : List Float} {k : ℕ} → count emptyCurve ≡ 0
+        → numbers curve ≡ N → count curve ≡ k → (Passed rules → (k ≤ length N) × (k ≤ length l))
+        → l′ ≡ pasted (numbers (b .curve)) (count (b .curve)) l 0 → l′ ≡ answering rules N k l .out
+    unfolding building answering
+    put-built numbers count l {N = N} {k = k} none same many fit e =
+        e ∙ ap (λ (x : Built). pasted (numbers (x .curve)) (count (x .curve)) l 0) is-built ∙ by (passes rules) refl
+      where
+        by : (t : Bool) → passes rules ≡ t → pasted (numbers (cond t curve emptyCurve)) (count (cond t curve emptyCurve)) l 0 ≡ cond t (paste l 0 N k) l
+        by true h = let r = fit (eqb-true _ _ h) in rw (same, many) (put-all N k l (r .0) (r .1))
+        by false h = rw none (put-none (numbers emptyCurve) l)
+
+    pub in-slices : {control′ out′ : List Float}
+        → control′ ≡ pasted (inTurn (b .curve .points) (b .curve .xs) (b .curve .ys)) (2 * b .curve .points) control 0
+        → out′ ≡ pasted (b .curve .knots) (b .curve .«knot_count») out 0
+        → sliced (b .refusal) control′ out′ work′ ≡ builtInto form coords given ks work control out
+    in-slices p k =
+        let are = points-are form coords given ks in
+        let points =
+        put-built (λ d. inTurn (d .points) (d .xs) (d .ys)) (λ d. 2 * d .points) control refl
+        (ap (λ (n : ℕ). inTurn n (curve .xs) (curve .ys)) are) (ap (λ (n : ℕ). 2 * n) are)
+        (λ z. (omega (arith, few z, length-in-turn (curve .xs) (curve .ys) m), ltb-false _ _ (or-left _ _ (room z)))) p in
+        let knots =
+        put-built (λ d. d .knots) (λ d. d .«knot_count») out refl refl (knots-are form coords given ks)
+        (λ z. (stored z, ltb-false _ _ (or-right (ltb (length control) (2 * m)) _ (room z)))) k in
+        λ i. sliced (built-refusal rules curve is-built i) (points i) (knots i) (whole i .work)

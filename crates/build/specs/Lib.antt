@@ -1,0 +1,2 @@
+-- The one build of every form.
+pub mod Build

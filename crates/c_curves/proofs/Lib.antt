@@ -1,0 +1,2 @@
+-- Numbers handed on, case by case.
+pub mod Handed

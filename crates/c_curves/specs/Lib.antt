@@ -1,0 +1,2 @@
+-- Curves and numbers, between C and the library.
+pub mod Curves

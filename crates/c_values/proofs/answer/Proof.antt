@@ -1,0 +1,15 @@
+-- `c_values::answer` meets its contract.
+use mathlib.Core.Path.{refl}
+use Rattle.c_values.proofs.Answers.{short, given}
+use borrow.Author.Needs.{needs}
+use Rattle.c_values.proofs.answer.Statement.{statement}
+use Rattle.c_values.proofs.answer.Tie as tie
+
+returns : tie.Need-returns
+returns c = short _ _ _ (c .if1 .taken)
+
+returns-2 : tie.Need-returns-2
+returns-2 c = let w = c .before .before in given _ _ _ (w .before .before .if1 .left) (w .write .ensures) refl
+
+pub answer-spec : {M : Type 1} → statement M
+answer-spec = tie.close (tie.spec returns (search needs) (search needs) returns-2)

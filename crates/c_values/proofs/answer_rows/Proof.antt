@@ -1,0 +1,25 @@
+-- `c_values::answer_rows` meets its contract.
+use Rattle.c_values.proofs.Answers.{short-out, short-counts, given-two}
+use Rattle.c_values.specs.Crossing.{AnsweredB}
+use borrow.Author.Needs.{needs}
+use Rattle.c_values.proofs.answer_rows.Statement.{statement}
+use Rattle.c_values.proofs.answer_rows.Tie as tie
+
+returns : tie.Need-returns
+unfolding AnsweredB
+returns c = short-out _ _ _ _ _ _ (c .if1 .taken)
+
+returns-2 : tie.Need-returns-2
+unfolding AnsweredB
+returns-2 c = short-counts _ _ _ _ _ _ (c .before .if1 .left) (c .if2 .taken)
+
+returns-3 : tie.Need-returns-3
+unfolding AnsweredB
+returns-3 c =
+    let w = c .before .before .before .before in
+    let test = w .before .before .before in
+    given-two _ _ _ _ _ _ (test .before .if1 .left) (test .if2 .left) (w .write-rows .ensures .0) (w .write-rows .ensures .1)
+
+pub answer-rows-spec : {M : Type 1} → statement M
+answer-rows-spec =
+    tie.close (tie.spec returns returns-2 (search needs) (search needs) (search needs) returns-3)

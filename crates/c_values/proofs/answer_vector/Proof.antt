@@ -1,0 +1,32 @@
+-- `c_values::answer_vector` meets its contract: x is written, then y behind it.
+use mathlib.Core.Path.{refl, _∙_}
+use Rattle.c_values.proofs.Answers.{short-out, short-counts, given-two}
+use Rattle.c_values.specs.Crossing.{AnsweredV}
+use borrow.Author.Needs.{needs}
+use Rattle.c_values.proofs.answer_vector.Statement.{statement}
+use Rattle.c_values.proofs.answer_vector.Tie as tie
+
+returns : tie.Need-returns
+unfolding AnsweredV
+returns c = short-out _ _ _ _ _ _ (c .if1 .taken)
+
+returns-2 : tie.Need-returns-2
+unfolding AnsweredV
+returns-2 c = short-counts _ _ _ _ _ _ (c .before .if1 .left) (c .if2 .taken)
+
+slice-write-counts-2 : tie.Need-slice-write-counts-2
+slice-write-counts-2 c = search needs
+
+returns-3 : tie.Need-returns-3
+unfolding AnsweredV
+returns-3 c =
+    let y = c .before .before in
+    let x = y .before .before .before .before in
+    let test = x .before .before in
+    given-two _ _ _ _ _ _ (test .before .if1 .left) (test .if2 .left) (y .write2 .ensures ∙ rw (x .write .ensures)) refl
+
+pub answer-vector-spec : {M : Type 1} → statement M
+answer-vector-spec =
+    tie.close
+    (tie.spec returns returns-2 (search needs) (search needs) (search needs) slice-write-counts-2 (search needs)
+    (search needs) returns-3)

@@ -1,0 +1,81 @@
+-- How values cross between C and the library: as slices and counts. include/threshdune_parts.h says the same in words.
+use mathlib.Core.Path.{_≡_}
+use Prim.Native.Nat.{ℕ, _+_, _*_, _/_, _%_}
+use mathlib.Core.Bool.{Bool, not, _||_, cond}
+use mathlib.Core.List.{List, [], _∷_}
+use lib.ListN.{length, getD, set}
+use lib.Dec.{ltb, eqb}
+use lib.Seq.{paste}
+use lib.Ieee.{Float}
+use Rattle.meaning.specs.Scalar.{zero64}
+use Rattle.meaning.specs.Loops.{run}
+use Rattle.meaning.specs.Table.{at2}
+use Rattle.meaning.specs.Search.{listed}
+use Rattle.partials.specs.declared.Dv.{Dv}
+use Rattle.partials.specs.Dual.{partials, dual}
+use Rattle.plane.specs.Vector.{Vector}
+
+-- a flag crosses as a number: knots are given where it is not 0
+abbrev pub isGiven : ℕ → Bool
+isGiven k = not (eqb k 0)
+
+-- ---- in: what lies past a slice's end reads as +0.0, a missing count as 0
+
+abbrev pub entryOf : List Float → ℕ → Float
+entryOf s i = getD s i zero64
+
+-- the value with n partials that stands in s from index at on
+unfoldable pub readDv : List Float → ℕ → ℕ → Dv
+readDv s at n = record { v = entryOf s at; g = partials 27 (λ k. entryOf s (at + 1 + k)); n = n }
+
+-- the vector with partials: x, and 28 numbers further y
+unfoldable pub readV : List Float → List ℕ → Vector Dv
+unfolding readDv
+readV s ns = record { x = readDv s 0 (getD ns 0 0); y = readDv s 28 (getD ns 1 0) }
+
+-- the six knots of a span, one behind the other
+unfoldable pub readSix : List Float → List ℕ → List Dv
+unfolding readDv
+readSix s ns = listed 0 6 (λ i. readDv s (28 * i) (getD ns i 0))
+
+-- ---- out: the refusal, and the lent slices before and after. Where there is no room it is 14 and they are as they were.
+
+-- a value with partials: its 28 numbers, and its count
+pub record AnsweredD (d : Dv) (out : List Float) (n : ℕ) (refusal : ℕ) (out′ : List Float) (n′ : ℕ) : Type 0 where
+  pub number : refusal ≡ cond (ltb (length out) 28) 14 0
+  pub written : out′ ≡ cond (ltb (length out) 28) out (paste out 0 (d .v ∷ d .g) 28)
+  pub counted : n′ ≡ cond (ltb (length out) 28) n (d .n)
+
+-- what is answered in two slices, numbers and counts: how many entries each has to have, and what they hold afterwards
+abbrev pub noRoom : ℕ → ℕ → List Float → List ℕ → Bool
+noRoom k m out ns = ltb (length out) k || ltb (length ns) m
+
+pub record AnsweredTwo (k m : ℕ) (numbers : List Float) (counts : List ℕ) (out : List Float) (ns : List ℕ) (refusal : ℕ) (out′ : List Float) (ns′ : List ℕ) : Type 0 where
+  pub number : refusal ≡ cond (noRoom k m out ns) 14 0
+  pub written : out′ ≡ cond (noRoom k m out ns) out numbers
+  pub counted : ns′ ≡ cond (noRoom k m out ns) ns counts
+
+-- a vector with partials: the 28 numbers of each value, and the two counts
+unfoldable pub AnsweredV : Vector Dv → List Float → List ℕ → ℕ → List Float → List ℕ → Type 0
+AnsweredV a out ns =
+    AnsweredTwo 56 2 (paste (paste out 0 (a .x .v ∷ a .x .g) 28) 28 (a .y .v ∷ a .y .g) 28) (set (set ns 0 (a .x .n)) 1 (a .y .n)) out ns
+
+-- the orders of a span's basis, five rows of four values with partials: value i is in row i / 4 at column i % 4
+abbrev pub valueOf : List (List Dv) → ℕ → Dv
+valueOf rows i = at2 dual rows (i / 4) (i % 4)
+
+-- its numbers go to the 28 places from 28 * i on, its count to place i
+unfoldable pub putValues : List (List Dv) → List Float → List Float
+putValues rows out = run 0 20 (λ i o. paste o (28 * i) (valueOf rows i .v ∷ valueOf rows i .g) 28) out
+
+unfoldable pub putCounts : List (List Dv) → List ℕ → List ℕ
+putCounts rows ns = run 0 20 (λ i l. set l i (valueOf rows i .n)) ns
+
+unfoldable pub AnsweredB : List (List Dv) → List Float → List ℕ → ℕ → List Float → List ℕ → Type 0
+unfolding putValues putCounts
+AnsweredB rows out ns = AnsweredTwo 560 20 (putValues rows out) (putCounts rows ns) out ns
+
+-- a vector of doubles
+pub record AnsweredP (a : Vector Float) (out : List Float) (refusal : ℕ) (out′ : List Float) : Type 0 where
+  pub number : refusal ≡ cond (ltb (length out) 2) 14 0
+  pub written : out′ ≡ cond (ltb (length out) 2) out (paste out 0 (a .x ∷ a .y ∷ []) 2)

@@ -1,1 +1,0 @@
-// Document 01's starred numbers. There is no code here: proofs/ has them, each a theorem about the definitions, by computing them.

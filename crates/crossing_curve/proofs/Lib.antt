@@ -1,2 +1,0 @@
--- A refusal in its place among the others.
-pub mod Placed

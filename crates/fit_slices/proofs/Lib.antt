@@ -1,3 +1,0 @@
--- What the build makes, in two slices.
-pub mod InSlices
-pub mod Determined

@@ -1,2 +1,0 @@
--- A fit answered in slices.
-pub mod Slices

@@ -1,2 +1,0 @@
--- How a line of the file writes a number.
-pub mod Word

@@ -1,0 +1,44 @@
+// What a call leaves behind: numbers in a lent slice, where there is room and each is finite, or one number by value; else a refusal.
+ghost use mathlib.Core.Path.{_≡_};
+ghost use mathlib.Core.Bool.{not};
+ghost use lib.Ieee.Scale.{finite};
+ghost use Rattle.meaning.specs.Scalar.{plain};
+ghost use Rattle.meaning.specs.Table.{at1};
+ghost use Rattle.meaning.specs.Search.{seek};
+ghost use Rattle.outcome.specs.Outcome.{deliveryRules, outcome, answering};
+use refusal::Refusal;
+
+// A number, or why there is none.
+pub enum Told {
+    Is(f64),
+    Refused(Refusal),
+}
+
+// The first of the first k numbers that is not finite, or k.
+pub fn first_wild(a: &[f64], k: usize) -> usize
+    ensures { λ r. ⌜ r ≡ seek 0 k (λ i. not (finite (at1 plain (now (a .entry)) i))) ⌝ }
+{
+    for i in 0..k {
+        if i >= a.len() {
+            return i;
+        }
+        if !number::is_finite(a[i]) {
+            return i;
+        }
+    }
+    k
+}
+
+// The first k of the numbers, where there is room for them and each is finite; a number that is not there is not.
+pub fn deliver(numbers: &[f64], k: usize, out: &mut [f64]) -> Refusal
+    ensures { λ r. ⌜ outcome r (now (out .exit)) ≡ answering (deliveryRules (now (numbers .entry)) k (now (out .entry))) (now (numbers .entry)) k (now (out .entry)) ⌝ }
+{
+    if out.len() < k {
+        return refusal::by(14);
+    }
+    if first_wild(numbers, k) < k {
+        return refusal::by(15);
+    }
+    buffer::put(numbers, k, out, 0);
+    refusal::by(0)
+}

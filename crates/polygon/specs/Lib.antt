@@ -1,0 +1,2 @@
+-- The length of a curve's control polygon.
+pub mod Polygon

@@ -1,0 +1,2 @@
+-- Refusals, and tables of them.
+pub mod Refusals

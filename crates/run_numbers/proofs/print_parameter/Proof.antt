@@ -1,0 +1,23 @@
+-- `run_numbers::print_parameter` is safe: what equals itself is no NaN. Assumes nothing.
+use mathlib.Core.Path.{sym, subst}
+use mathlib.Core.Bool.{not}
+use lib.Dec.{T}
+use lib.Ieee.{Float, nan, inf, fin, eq, isNan}
+use borrow.Author.Needs.{needs}
+use Rattle.run_numbers.proofs.print_parameter.Statement.{statement}
+use Rattle.run_numbers.proofs.print_parameter.Tie as tie
+
+number : (x : Float) → T (eq x x) → T (not (isNan x))
+unfolding eq isNan
+number nan t = t
+number (inf s) t = tt
+number (fin s m e) t = tt
+
+float-to-bits-print-hex : tie.Need-float-to-bits-print-hex
+float-to-bits-print-hex c = number (c .before .args .t) (subst T (sym (c .if1 .taken)) tt)
+
+pub print-parameter-spec : {M : Type 1} → statement M
+print-parameter-spec =
+    tie.close
+    (tie.spec float-to-bits-print-hex (search needs) (search needs) (search needs) (search needs) (search needs)
+    (search needs))

@@ -1,0 +1,81 @@
+// The rules' numbers to check by that are not starred, run: the closest parameters of A and B, the orders that are accepted, and the fits that are
+// accepted and refused. Each line has what is asked and the answer; `stdout` has the rules' answers.
+use curve::Built;
+use knots::Form;
+use libc::STDOUT_FILENO;
+use outcome::Told;
+use refusal::Refusal;
+
+// (0,0), (0,8), (8,8), (8,0)
+fn a() -> [f64; 8] {
+    [0.0, 0.0, 0.0, 8.0, 8.0, 8.0, 8.0, 0.0]
+}
+
+// (0,0), (1,2), (2,4), (3,6)
+fn b() -> [f64; 8] {
+    [0.0, 0.0, 1.0, 2.0, 2.0, 4.0, 3.0, 6.0]
+}
+
+// The curve with these control points over uniform knots.
+fn uniform(points: &[f64; 8]) -> Built {
+    build::build(Form::Control, points, false, &[], &mut [])
+}
+
+// Writes the word and the number, or that there is none.
+fn print_refusal(r: Refusal) {
+    if r.number == 0 {
+        io::write_all(STDOUT_FILENO, b"accepted\n");
+    } else {
+        io::write_all(STDOUT_FILENO, b"refused ");
+        io::print_decimal(STDOUT_FILENO, r.number);
+        io::write_all(STDOUT_FILENO, b"\n");
+    }
+}
+
+// Writes the bits of a parameter, or a word for a NaN, which has no bits of its own.
+fn print_parameter(t: f64) {
+    if t == t {
+        io::print_hex(STDOUT_FILENO, f64::to_bits(t), 16);
+    } else {
+        io::write_all(STDOUT_FILENO, b"nan");
+    }
+    io::write_all(STDOUT_FILENO, b"\n");
+}
+
+// Writes the parameter, or the refusal.
+fn print_told(f: Told) {
+    match f {
+        Told::Is(t) => print_parameter(t),
+        Told::Refused(r) => print_refusal(r),
+    }
+}
+
+// Writes whether an order is accepted.
+fn print_order(order: usize) {
+    let curve = uniform(&a()).curve;
+    let mut out = [0.0; 12];
+    print_refusal(point::evaluate(curve, 0.25, order, &mut out));
+}
+
+// Writes whether a fit through these points is accepted.
+fn print_fit(points: &[f64]) {
+    let mut work = [0.0; 35];
+    print_refusal(build::build(Form::Fit, points, false, &[], &mut work).refusal);
+}
+
+fn main() {
+    io::write_all(STDOUT_FILENO, b"B closest to (-6,0): ");
+    print_told(closest::closest(uniform(&b()).curve, -6.0, 0.0));
+    io::write_all(STDOUT_FILENO, b"B closest to (1.5,3): ");
+    print_told(closest::closest(uniform(&b()).curve, 1.5, 3.0));
+    io::write_all(STDOUT_FILENO, b"A closest to (4,0): ");
+    print_told(closest::closest(uniform(&a()).curve, 4.0, 0.0));
+    io::write_all(STDOUT_FILENO, b"order 4: ");
+    print_order(4);
+    io::write_all(STDOUT_FILENO, b"order 5: ");
+    print_order(5);
+    io::write_all(STDOUT_FILENO, b"fit (0,0),(1e200,0),(0,0): ");
+    print_fit(&[0.0, 0.0, 1e200, 0.0, 0.0, 0.0]);
+    io::write_all(STDOUT_FILENO, b"fit (0,0),(1e200,0): ");
+    print_fit(&[0.0, 0.0, 1e200, 0.0]);
+}

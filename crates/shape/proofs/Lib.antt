@@ -1,0 +1,3 @@
+-- What the rules tell of a shape and of handles that they let through.
+pub mod Trusted
+pub mod Handles

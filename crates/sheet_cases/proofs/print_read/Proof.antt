@@ -1,0 +1,15 @@
+-- `sheet_cases::print_read` is safe: the sheet lies in its room. Assumes nothing.
+use borrow.Author.Needs.{needs}
+use mathlib.Core.Path.{sym}
+use native.Mathlib.Omega.{arith}
+use lib.Seq.{length-take-le}
+use Rattle.sheet_cases.proofs.print_read.Statement.{statement}
+use Rattle.sheet_cases.proofs.print_read.Tie as tie
+
+slice-aggregate-fill-and-print : tie.Need-slice-aggregate-fill-and-print
+slice-aggregate-fill-and-print c = sym (length-take-le _ _ (omega arith))
+
+pub print-read-spec : {M : Type 1} → statement M
+print-read-spec =
+    tie.close
+    (tie.spec (search needs) (search needs) slice-aggregate-fill-and-print (search needs) (search needs))

@@ -1,0 +1,2 @@
+-- The rules' "Numbers to check by", the starred ones.
+pub mod Starred

@@ -1,13 +1,44 @@
-/* Threshdune for C: the functions of the crate `exports`, each proved to meet its contract (crates/exports/src/lib.rt).
+/* Threshdune for C: plane cubic B-splines. threshdune_parts.h has what curves are made of.
  *
- * A slice is a pointer and a length. Where a function answers a uint64_t that is called a refusal, 0 is none and any other
- * number is document 01's: nothing was written then. The answers go into the lent slices, of which only the named entries change.
- * Pointers are not null, also where the length is 0, and what is lent for writing overlaps nothing else.
+ * The functions are those of the crate `threshdune`, and each is proved to meet its contract
+ * (crates/threshdune/src/lib.rt). docs/RULES.md says what they compute; which operations are made,
+ * and in which order, the original's spline.rs decides (NOTICE). The archive is libthreshdune.a. It
+ * calls nothing but memcpy and memset.
+ *
+ * Slices. A slice is a pointer and the number of its entries. With no entries the pointer may be
+ * null: nothing is read or written through it. The other pointers (`length`, `from`, `to`, `t`,
+ * `count`) are never null. What is lent for writing overlaps nothing else that the call is given.
+ *
+ * Refusals. Where a function answers a uint64_t it is a refusal, and 0 is none. The rows are tried
+ * from the top, and the first that applies is the answer:
+ *
+ *     1  a slice of coordinates has an odd number of entries
+ *     2  there are fewer than 2 points
+ *     3  there are 2 or 3 control points
+ *     4  there are over 66 control points, or over 64 fit points
+ *     5  knots are given with fit points (no function here takes both; the sheet program does)
+ *     6  the knots are not 4 more than the control points
+ *     7  a knot is not finite, or is less than the one before
+ *     8  the first four knots are not equal, or the last four
+ *     9  the first knot is not below the last
+ *    10  one of the knots 4 to n - 1, counted from 0, stands more than 3 times in the list
+ *    11  a coordinate is not finite, of the curve's points or of the point searched for
+ *    12  the parameter is not finite
+ *    13  the order is above 4, or there are over 16 samples to a span
+ *    14  a slice for the answer or for work is too short
+ *    15  an outcome is not finite (docs/RULES.md, "When 15 is given")
+ *
+ * Buffers. A refused call writes no answer: what is lent for it is as it was. A call that answers
+ * writes as many entries as its comment says, from the first on, and leaves the rest of the slice.
+ * A work buffer is written by a fit that is refused 15, too: it holds zeros then (see there).
+ *
+ * Curves. A curve is given as its control points, x and y in turn, and its knots: n points, 4 to
+ * 66, are 2 * n doubles, and n + 4 knots belong to them. Whoever made it, a function that is asked
+ * about a curve checks it again, by 1 to 4 and 6 to 11. The comments name what may follow.
  */
 #ifndef THRESHDUNE_H
 #define THRESHDUNE_H
 
-#include <stdbool.h>
 #include <stddef.h>
 #include <stdint.h>
 
@@ -15,157 +46,65 @@
 extern "C" {
 #endif
 
-#define THRESHDUNE_NO_ROOM 14 /* an output is too short */
+#define THRESHDUNE_NO_ROOM 14 /* a slice is too short */
 
-/* ---- numbers */
+/* ---- making a curve */
 
-/* The double nearest to the root of x; +0.0 at or below 0, minus infinity too; plus infinity and a NaN as they are. */
-double threshdune_root(double x);
-/* Whether x is neither a NaN nor an infinity. */
-bool threshdune_is_finite(double x);
-/* x without its sign. */
-double threshdune_size(double x);
-/* Whether the size of x is that of y or stands after it in totalOrder. */
-bool threshdune_at_least(double x, double y);
-/* lo where x is below it, else x; then hi where that is above it. A zero keeps its sign, and a NaN stays. */
-double threshdune_clamp(double x, double lo, double hi);
+/* The curve of n control points, x and y in turn: over `knots` where `given` is not 0, else over
+ * uniform ones, and `knots` is not read then.
+ * Room: 2 * n doubles in `control`, x and y in turn; n + 4 in `knots_out`.
+ * Refusals: 1 to 4, 6 to 11 (6 to 10 of given knots alone), 14. */
+uint64_t threshdune_build_control(const double *coords, size_t coords_len, uint64_t given,
+                                  const double *knots, size_t knots_len, double *control,
+                                  size_t control_len, double *knots_out, size_t knots_out_len);
 
-/* ---- values with partials
- *
- * A value with partials crosses as a slice, its value and then its partials, and as their count. A count above 27 reads as 27, and
- * what lies past the slice's end as +0.0. An answer is 28 doubles, the value and 27 partials (+0.0 past the count), and the count.
- * The refusal is 14 where `out` has no room for them.
- */
-#define THRESHDUNE_PARTIALS 28
+/* The curve through n fit points, x and y in turn, 2 to 64 of them; it has m = n + 2 control
+ * points.
+ * Room: 2 * m doubles in `control`, x and y in turn; m + 4 in `knots_out`; m * m + 2 * m in `work`,
+ * which is THRESHDUNE_FIT_WORK(n): 4488 for 64 points. The work buffer may hold anything. After an
+ * answer, and after 15, that part of it holds zeros; any other refusal leaves it as it was. What
+ * lies past that part is never touched.
+ * Refusals: 1, 2, 4, 11, 14 for any of the three slices, 15. */
+uint64_t threshdune_build_fit(const double *coords, size_t coords_len, double *work,
+                              size_t work_len, double *control, size_t control_len,
+                              double *knots_out, size_t knots_out_len);
+#define THRESHDUNE_FIT_WORK(n) (((n) + 2) * ((n) + 4)) /* m * m + 2 * m for m = n + 2 */
 
-/* Variable i of xs: xs[i], with the partial 1 at i; above 26, or past the slice, +0.0 with no partials. */
-uint64_t threshdune_partials_var(const double *xs, size_t xs_len, uint64_t i, double *out, size_t out_len, uint64_t *count);
-uint64_t threshdune_partials_add(const double *a, size_t a_len, uint64_t a_count, const double *b, size_t b_len,
-                                 uint64_t b_count, double *out, size_t out_len, uint64_t *count);
-uint64_t threshdune_partials_sub(const double *a, size_t a_len, uint64_t a_count, const double *b, size_t b_len,
-                                 uint64_t b_count, double *out, size_t out_len, uint64_t *count);
-uint64_t threshdune_partials_mul(const double *a, size_t a_len, uint64_t a_count, const double *b, size_t b_len,
-                                 uint64_t b_count, double *out, size_t out_len, uint64_t *count);
-uint64_t threshdune_partials_div(const double *a, size_t a_len, uint64_t a_count, const double *b, size_t b_len,
-                                 uint64_t b_count, double *out, size_t out_len, uint64_t *count);
-uint64_t threshdune_partials_neg(const double *a, size_t a_len, uint64_t a_count, double *out, size_t out_len, uint64_t *count);
-uint64_t threshdune_partials_root(const double *a, size_t a_len, uint64_t a_count, double *out, size_t out_len, uint64_t *count);
-/* How far t lies outside lo to hi, 0 inside. */
-uint64_t threshdune_partials_overshoot(const double *t, size_t t_len, uint64_t t_count, double lo, double hi, double *out,
-                                       size_t out_len, uint64_t *count);
-/* Whether the value and each counted partial is finite. */
-bool threshdune_partials_is_fine(const double *a, size_t a_len, uint64_t a_count);
+/* ---- what is asked of a curve */
 
-/* ---- vectors of the plane: two doubles, x and y; 14 where `out` has no room for them */
+/* The point at t and its derivatives up to the order, 0 to 4. Past the ends of its domain a curve
+ * goes on straight.
+ * Room: 2 * (order + 1) doubles in `out`, x and y in turn. Refusals: 12, 13, 14, 15. */
+uint64_t threshdune_evaluate(const double *coords, size_t coords_len, const double *knots,
+                             size_t knots_len, double t, uint64_t order, double *out,
+                             size_t out_len);
 
-uint64_t threshdune_plane_add(double ax, double ay, double bx, double by, double *out, size_t out_len);
-uint64_t threshdune_plane_sub(double ax, double ay, double bx, double by, double *out, size_t out_len);
-uint64_t threshdune_plane_scale(double ax, double ay, double k, double *out, size_t out_len);
-/* a over its length; (1, 0) where the length's square is below 1e-24. */
-uint64_t threshdune_plane_unit(double ax, double ay, double *out, size_t out_len);
-double threshdune_plane_dot(double ax, double ay, double bx, double by);
-double threshdune_plane_norm(double ax, double ay);
+/* The point at t and the unit tangent, which is (1, 0) where the derivative has no direction: where
+ * its length, multiplied by itself, is below 1e-24.
+ * Room: 4 doubles in `out`. Refusals: 12, 14, 15. */
+uint64_t threshdune_point_tangent(const double *coords, size_t coords_len, const double *knots,
+                                  size_t knots_len, double t, double *out, size_t out_len);
 
-/* ---- vectors with partials: x and then y, each as a value with partials of 28 doubles, and the two counts; a missing count reads as 0.
- * 14 where `out` has no room for 56 doubles, or `counts` for two; dot and norm answer one value with partials, as above.
- */
+/* The length of the control polygon. Refusal: 15. */
+uint64_t threshdune_length(const double *coords, size_t coords_len, const double *knots,
+                           size_t knots_len, double *length);
 
-uint64_t threshdune_plane_partials_add(const double *a, size_t a_len, const uint64_t *a_counts, size_t a_counts_len,
-                                       const double *b, size_t b_len, const uint64_t *b_counts, size_t b_counts_len,
-                                       double *out, size_t out_len, uint64_t *counts, size_t counts_len);
-uint64_t threshdune_plane_partials_sub(const double *a, size_t a_len, const uint64_t *a_counts, size_t a_counts_len,
-                                       const double *b, size_t b_len, const uint64_t *b_counts, size_t b_counts_len,
-                                       double *out, size_t out_len, uint64_t *counts, size_t counts_len);
-uint64_t threshdune_plane_partials_scale(const double *a, size_t a_len, const uint64_t *a_counts, size_t a_counts_len,
-                                         const double *k, size_t k_len, uint64_t k_count, double *out, size_t out_len,
-                                         uint64_t *counts, size_t counts_len);
-uint64_t threshdune_plane_partials_unit(const double *a, size_t a_len, const uint64_t *a_counts, size_t a_counts_len,
-                                        double *out, size_t out_len, uint64_t *counts, size_t counts_len);
-uint64_t threshdune_plane_partials_dot(const double *a, size_t a_len, const uint64_t *a_counts, size_t a_counts_len,
-                                       const double *b, size_t b_len, const uint64_t *b_counts, size_t b_counts_len,
-                                       double *out, size_t out_len, uint64_t *count);
-uint64_t threshdune_plane_partials_norm(const double *a, size_t a_len, const uint64_t *a_counts, size_t a_counts_len,
-                                        double *out, size_t out_len, uint64_t *count);
+/* The first knot and the last. No refusal but the curve's. */
+uint64_t threshdune_domain(const double *coords, size_t coords_len, const double *knots,
+                           size_t knots_len, double *from, double *to);
 
-/* ---- the basis with partials
- *
- * The four cubic basis functions that are not zero on a span, at t, with their derivatives. The span is given by the six knots that it reads,
- * for span i those from knot i - 2 to knot i + 3: w holds six values with partials, one behind the other, 28 doubles to each, and w_counts their
- * counts; a missing count reads as 0. Nothing is asked of the knots, and any order may be asked for.
- * Answers twenty values with partials, one behind the other, and their counts: value 4 * k + j is the derivative of order k, 0 to 4, of
- * function j. Those of orders above the one asked for, and of order 4, are +0.0 without partials. 14 where `out` has no room for 560 doubles,
- * or `counts` for twenty.
- */
-#define THRESHDUNE_BASIS 560
+/* Parameters for drawing: `per_span` of them, 0 to 16, from the start of each rising pair of knots
+ * on, and last the domain's end. `count` is how many there are.
+ * Room: as many doubles in `out`, at most (n - 3) * per_span + 1 for n control points, and never
+ * more than 1009. Refusals: 13, 14, 15. */
+uint64_t threshdune_samples(const double *coords, size_t coords_len, const double *knots,
+                            size_t knots_len, uint64_t per_span, double *out, size_t out_len,
+                            uint64_t *count);
 
-uint64_t threshdune_partials_basis(const double *w, size_t w_len, const uint64_t *w_counts, size_t w_counts_len, const double *t,
-                                   size_t t_len, uint64_t t_count, uint64_t order, double *out, size_t out_len,
-                                   uint64_t *counts, size_t counts_len);
-
-/* ---- curves
- *
- * A curve crosses as its control points, x and y in turn, and its knots, of which there are four more than control points. Each
- * function checks both again, whoever made them: refusals 1, 2 to 4, 6 to 11 in document 01's order, before those it names. The
- * refusal is the result, 0 for none; a refused call writes nothing.
- */
-
-/* The curve of these control points, over the knots where `given` is not 0, else over uniform ones; `knots` is not read then.
- * For n control points writes 2n numbers into `control`, x and y in turn, and n + 4 into `knots_out`: 14 where either is too short; 15. */
-uint64_t threshdune_build_control(const double *coords, size_t coords_len, uint64_t given, const double *knots, size_t knots_len,
-                                  double *control, size_t control_len, double *knots_out, size_t knots_out_len);
-/* The curve through n fit points, x and y in turn, 2 to 64 of them; it has m = n + 2 control points. Refusals 1, 2, 4, 5, 11 come first: 5 where
- * `given` is not 0, since no knots can be given with fit points. `work` is for m * m + 2 * m doubles, whatever it holds: after success and after 15 these
- * are zeros, and no other refusal touches it. Writes 2m numbers into `control`, x and y in turn, and m + 4 into `knots_out`: 14 where one of the three is
- * too short; 15. */
-uint64_t threshdune_build_fit(const double *coords, size_t coords_len, uint64_t given, const double *knots, size_t knots_len,
-                              double *work, size_t work_len, double *control, size_t control_len, double *knots_out,
-                              size_t knots_out_len);
-#define THRESHDUNE_FIT_WORK(n) (((n) + 2) * ((n) + 4)) /* the doubles of work for n fit points */
-/* The point at t and its derivatives up to the order: 2 * (order + 1) numbers, x and y in turn. 12 for t, 13 above order 4, 14, 15. */
-uint64_t threshdune_evaluate(const double *coords, size_t coords_len, const double *knots, size_t knots_len, double t,
-                             uint64_t order, double *out, size_t out_len);
-/* The point at t and the unit tangent: four numbers. 12, 14, 15. */
-uint64_t threshdune_point_tangent(const double *coords, size_t coords_len, const double *knots, size_t knots_len, double t,
-                                  double *out, size_t out_len);
-/* The length of the control polygon: one number. 14, 15. */
-uint64_t threshdune_length(const double *coords, size_t coords_len, const double *knots, size_t knots_len, double *out,
-                           size_t out_len);
-/* The first knot and the last: two numbers. 14. */
-uint64_t threshdune_domain(const double *coords, size_t coords_len, const double *knots, size_t knots_len, double *out,
-                           size_t out_len);
-/* per_span parameters from the start of each rising knot pair on, then the domain's end; count says how many, 1009 at most. 13 above 16,
- * 14, 15. */
-uint64_t threshdune_samples(const double *coords, size_t coords_len, const double *knots, size_t knots_len, uint64_t per_span,
-                            double *out, size_t out_len, uint64_t *count);
-
-/* The parameter of the curve's point that lies nearest to (px, py), as far as 16 samples to a span and Newton's rounds find it: one number.
- * 11 for the point too, 14, 15. */
-uint64_t threshdune_closest(const double *coords, size_t coords_len, const double *knots, size_t knots_len, double px, double py,
-                            double *out, size_t out_len);
-
-/* ---- curves as records
- *
- * A record has room for 66 control points and 70 knots, and two counts that say how many there are. It crosses as the counts and three
- * slices: the x, the y, the knots. What lies past a slice's end reads as +0.0, and what lies past the room is not read. Each function checks
- * the record again, whatever its counts say: refusals 2 to 4, 6 to 11; then it answers, or refuses, as its namesake above does.
- */
-
-uint64_t threshdune_record_evaluate(uint64_t points, uint64_t knot_count, const double *xs, size_t xs_len, const double *ys,
-                                    size_t ys_len, const double *knots, size_t knots_len, double t, uint64_t order, double *out,
-                                    size_t out_len);
-uint64_t threshdune_record_point_tangent(uint64_t points, uint64_t knot_count, const double *xs, size_t xs_len, const double *ys,
-                                         size_t ys_len, const double *knots, size_t knots_len, double t, double *out,
-                                         size_t out_len);
-uint64_t threshdune_record_length(uint64_t points, uint64_t knot_count, const double *xs, size_t xs_len, const double *ys,
-                                  size_t ys_len, const double *knots, size_t knots_len, double *out, size_t out_len);
-uint64_t threshdune_record_domain(uint64_t points, uint64_t knot_count, const double *xs, size_t xs_len, const double *ys,
-                                  size_t ys_len, const double *knots, size_t knots_len, double *out, size_t out_len);
-uint64_t threshdune_record_closest(uint64_t points, uint64_t knot_count, const double *xs, size_t xs_len, const double *ys,
-                                   size_t ys_len, const double *knots, size_t knots_len, double px, double py, double *out,
-                                   size_t out_len);
-uint64_t threshdune_record_samples(uint64_t points, uint64_t knot_count, const double *xs, size_t xs_len, const double *ys,
-                                   size_t ys_len, const double *knots, size_t knots_len, uint64_t per_span, double *out,
-                                   size_t out_len, uint64_t *count);
+/* The parameter of the curve's point that lies nearest to (px, py), as far as 16 samples to a span
+ * and then at most 30 of Newton's rounds find it. Refusals: 11 for the point too, 15. */
+uint64_t threshdune_closest(const double *coords, size_t coords_len, const double *knots,
+                            size_t knots_len, double px, double py, double *t);
 
 #ifdef __cplusplus
 }

@@ -1,7 +1,7 @@
-//! Document 01's "Numbers to check by", as far as the original alone can show them, and case S,
-//! which is the curve A at 0.25 and at 2. Linked with one of the two builds under the name `oracle`.
-//! With the argument `closest` also the closest parameters, which document 01 asks of the replaced
-//! distance. Stops at the first number that is not as written.
+//! The numbers of docs/RULES.md, "Numbers to check by", as far as the original alone can show them,
+//! and case S, which is the curve A at 0.25 and at 2. Linked with one of the two builds under the
+//! name `oracle`. With the argument `closest` also the closest parameters, which belong to the
+//! replaced distance. Stops at the first number that is not as written.
 
 use oracle::access;
 use oracle::spline::{BSpline, Curve, Dv, P2, Scalar, check, closest_param};
@@ -129,7 +129,7 @@ fn partials() {
     expect("1/x at 2, its partial", &inverse.g, &[-0.25]);
 }
 
-/// Not in document 01: that the residuals and their rows come through the stand-ins as they are.
+/// Not in docs/RULES.md: that the residuals and their rows come through the stand-ins as they are.
 fn stand_ins() {
     let mut x = B.as_flattened().to_vec();
     x.extend([1.5, 3.0, 0.5]);

@@ -17,12 +17,12 @@ make_archive() { # proves the crate, and so takes its time where something has c
     cd "$root"
     case $(uname -m) in
     x86_64)
-        rt staticlib exports || die "rt made no static library"
-        archive=$root/target/staticlib/libexports.a
+        rt staticlib threshdune || die "rt made no static library"
+        archive=$root/target/staticlib/libthreshdune.a
         ;;
     *)
-        "${NATIVE_LIB:-$root/../shared/tools/native-lib}" exports target/native || die "no library for this processor"
-        archive=$root/target/native/libexports.a
+        "${NATIVE_LIB:-$root/../shared/tools/native-lib}" threshdune target/native || die "no library for this processor"
+        archive=$root/target/native/libthreshdune.a
         ;;
     esac
 }

@@ -38,7 +38,6 @@ fn ours(coords: &[f64], knots: &[f64], [px, py]: [f64; 2]) -> f64 {
             px,
             py,
             &mut t,
-            1,
         )
     };
     assert_eq!(refusal, 0);

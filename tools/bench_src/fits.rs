@@ -35,14 +35,10 @@ pub fn ours(points: &[[f64; 2]], work: &mut [f64]) -> Vec<f64> {
     let m = points.len() + 2;
     let mut answer = vec![0.0; 3 * m + 4];
     let (control, knots) = answer.split_at_mut(2 * m);
-    let none: [f64; 0] = [];
     let refusal = unsafe {
         threshdune_build_fit(
             points.as_ptr().cast(),
             2 * points.len(),
-            0,
-            none.as_ptr(),
-            0,
             work.as_mut_ptr(),
             work.len(),
             control.as_mut_ptr(),

@@ -1,5 +1,5 @@
 //! What a curve is asked for, whichever way it crosses: its points, tangents, length, domain and samples, against the
-//! original's `Curve<f64>`, with the refusals of document 01's table and the original's `check`.
+//! original's `Curve<f64>`, with the refusals of docs/RULES.md's table and the original's `check`.
 //!
 //! The original is asked only where no row of the table up to 14 applies: it trusts a finished curve, and would stop.
 
@@ -45,9 +45,9 @@ macro_rules! door {
         match $form {
             Form::Slices { coords, knots } => unsafe {
                 ours::$slices(
-                    coords.as_ptr(),
+                    $crate::asked::start(coords),
                     coords.len(),
-                    knots.as_ptr(),
+                    $crate::asked::start(knots),
                     knots.len(),
                     $($argument),*
                 )
@@ -56,11 +56,11 @@ macro_rules! door {
                 ours::$record(
                     record.points,
                     record.knot_count,
-                    record.xs.as_ptr(),
+                    $crate::asked::start(&record.xs),
                     record.xs.len(),
-                    record.ys.as_ptr(),
+                    $crate::asked::start(&record.ys),
                     record.ys.len(),
-                    record.knots.as_ptr(),
+                    $crate::asked::start(&record.knots),
                     record.knots.len(),
                     $($argument),*
                 )
@@ -77,6 +77,14 @@ impl Form<'_> {
             Form::Slices { coords, knots } => format!("[{}] over [{}]", hex(coords), hex(knots)),
             Form::Record(record) => record.tell(),
         }
+    }
+}
+
+/// The pointer to a slice that is read: null where it is empty, as the header allows.
+pub fn start(slice: &[f64]) -> *const f64 {
+    match slice {
+        [] => std::ptr::null(),
+        _ => slice.as_ptr(),
     }
 }
 
@@ -213,35 +221,32 @@ impl<'a> Asked<'a> {
     }
 
     fn length(&self, random: &mut Random, tally: &mut Tally) {
-        let mut room = Room::draw(random, 1, self.messy);
+        let mut room = Room::behind(random, 1);
         let refusal = door!(
             &self.form,
             threshdune_length,
             threshdune_record_length,
-            room.memory.as_mut_ptr(),
-            room.len
+            room.pointer(0)
         );
-        let wanted = Wanted::of(self.table.row(14, room.len < 1), || {
-            vec![vec![self.theirs().polygon_length()]]
-        });
-        wanted.kinds(tally, "length answered");
+        let wanted = Wanted::of(self.table, || vec![vec![self.theirs().polygon_length()]]);
+        wanted.kinds_behind(tally, "length answered");
         self.judge(tally, refusal, &wanted, &room, || "length".into());
     }
 
     fn domain(&self, random: &mut Random, tally: &mut Tally) {
-        let mut room = Room::draw(random, 2, self.messy);
+        let mut room = Room::behind(random, 2);
         let refusal = door!(
             &self.form,
             threshdune_domain,
             threshdune_record_domain,
-            room.memory.as_mut_ptr(),
-            room.len
+            room.pointer(0),
+            room.pointer(1)
         );
-        let wanted = Wanted::of(self.table.row(14, room.len < 2), || {
+        let wanted = Wanted::of(self.table, || {
             let (first, last) = self.theirs().domain();
             vec![vec![first, last]]
         });
-        wanted.kinds(tally, "domain answered");
+        wanted.kinds_behind(tally, "domain answered");
         self.judge(tally, refusal, &wanted, &room, || "domain".into());
     }
 
@@ -381,6 +386,14 @@ impl Wanted {
         }
     }
 
+    /// The same where the answer goes through pointers.
+    pub fn kinds_behind(&self, tally: &mut Tally, answered: &'static str) {
+        self.kinds(tally, answered);
+        if self.number != 0 {
+            tally.kind("refused, with pointers for the answer");
+        }
+    }
+
     pub fn refusal_fault(&self, refusal: u64, check: Option<u64>) -> Option<String> {
         if refusal != self.number {
             return Some(format!("refusal {refusal}, wanted {}", self.number));
@@ -394,9 +407,14 @@ impl Wanted {
 /// Lent for an answer, with rubbish in it and behind its end.
 pub struct Room {
     seed: u64,
+    /// Those of its bits that are 1 in all the rubbish.
+    ones: u64,
     pub memory: Vec<f64>,
     pub len: usize,
 }
+
+/// With these bits a double is a NaN, whatever the others are.
+const NAN: u64 = 0x7FF0_0000_0000_0001;
 
 impl Room {
     pub fn draw(random: &mut Random, needed: usize, messy: bool) -> Self {
@@ -407,9 +425,28 @@ impl Room {
             3..5 => needed + 1 + random.below(6) as usize,
             _ => needed,
         };
-        let seed = random.bits();
-        let memory = (0..len + 4).map(|k| rubbish(seed, k)).collect();
-        Room { seed, memory, len }
+        Room::of(random.bits(), 0, len)
+    }
+
+    /// What lies behind so many pointers: a NaN each, with bits of its own. An answer that was not written shows, and so does a
+    /// write where there is none.
+    pub fn behind(random: &mut Random, pointers: usize) -> Self {
+        Room::of(random.bits(), NAN, pointers)
+    }
+
+    fn of(seed: u64, ones: u64, len: usize) -> Self {
+        let memory = (0..len + 4).map(|k| rubbish(seed, ones, k)).collect();
+        Room {
+            seed,
+            ones,
+            memory,
+            len,
+        }
+    }
+
+    /// To entry k; those of two calls may both be kept.
+    pub fn pointer(&mut self, k: usize) -> *mut f64 {
+        self.memory.as_mut_ptr().wrapping_add(k)
     }
 
     /// The entries come first, and all that lies after them is as it was, to the bit.
@@ -420,7 +457,8 @@ impl Room {
             let (found, wanted) = (hex(&[found[k]]), hex(&[entries[k]]));
             return Some(format!("entry {k} of {name} is {found}, wanted {wanted}"));
         }
-        let touched = |k: &usize| found[*k].to_bits() != rubbish(self.seed, *k).to_bits();
+        let touched =
+            |k: &usize| found[*k].to_bits() != rubbish(self.seed, self.ones, *k).to_bits();
         let k = (entries.len()..found.len()).find(touched)?;
         let len = self.len;
         Some(format!("entry {k} of {name}, {len} long, has been written"))
@@ -428,6 +466,6 @@ impl Room {
 }
 
 /// What lies at k before the call.
-fn rubbish(seed: u64, k: usize) -> f64 {
-    f64::from_bits((seed ^ k as u64).wrapping_mul(0x9E37_79B9_7F4A_7C15))
+fn rubbish(seed: u64, ones: u64, k: usize) -> f64 {
+    f64::from_bits((seed ^ k as u64).wrapping_mul(0x9E37_79B9_7F4A_7C15) | ones)
 }

@@ -1,4 +1,4 @@
-//! The closest parameter, against the original with its one `hypot` replaced, as document 01 has it. The same searches are made with the
+//! The closest parameter, against the original with its one `hypot` replaced (docs/RULES.md, "Distance"). The same searches are made with the
 //! unaltered file: where it finds another parameter is counted, and the shortest of these searches are told.
 
 use crate::asked::{Form, Room, Wanted, door, points};
@@ -48,7 +48,7 @@ pub fn run(random: &mut Random, rounds: u64) -> Tally {
             true => Search::of_record(&record, point),
             false => Search::of_slices(coords, knots, point),
         };
-        let wanted = search.judge(messy, random, &mut tally);
+        let wanted = search.judge(random, &mut tally);
         if let [t] = wanted.entries(0) {
             tally.kind(drawn.kind);
             tally.kind(place);
@@ -102,8 +102,8 @@ impl<'a> Search<'a> {
         }
     }
 
-    fn judge(&self, messy: bool, random: &mut Random, tally: &mut Tally) -> Wanted {
-        let mut room = Room::draw(random, 1, messy);
+    fn judge(&self, random: &mut Random, tally: &mut Tally) -> Wanted {
+        let mut room = Room::behind(random, 1);
         let [px, py] = self.point;
         let refusal = door!(
             &self.form,
@@ -111,11 +111,10 @@ impl<'a> Search<'a> {
             threshdune_record_closest,
             px,
             py,
-            room.memory.as_mut_ptr(),
-            room.len
+            room.pointer(0)
         );
-        let wanted = Wanted::judged(self.table.row(14, room.len < 1), || self.theirs());
-        wanted.kinds(tally, "closest answered");
+        let wanted = Wanted::judged(self.table, || self.theirs());
+        wanted.kinds_behind(tally, "closest answered");
         if wanted.number == 0 && matches!(self.form, Form::Record(_)) {
             tally.kind("closest answered of a record");
         }

@@ -1,7 +1,7 @@
 //! Curves made from control points and crossing in slices: the build against the original's `BSpline`, and what is asked of
 //! the curve, or of a damaged copy of it.
 
-use crate::asked::{Asked, Room, Wanted, points};
+use crate::asked::{Asked, Room, Wanted, points, start};
 use crate::layouts::Layout;
 use crate::ours;
 use crate::random::Random;
@@ -48,10 +48,10 @@ fn build(layout: &Layout, messy: bool, random: &mut Random, tally: &mut Tally) {
     let mut knots_out = Room::draw(random, coords.len() / 2 + 4, messy);
     let refusal = unsafe {
         ours::threshdune_build_control(
-            coords.as_ptr(),
+            start(coords),
             coords.len(),
             given,
-            handed.as_ptr(),
+            start(handed),
             handed.len(),
             control.memory.as_mut_ptr(),
             control.len,

@@ -1,5 +1,5 @@
-//! How far answered points lie outside the hull of their span's four control points, measured in whole numbers: demand 3,
-//! as docs/HULL.md states it.
+//! How far answered points lie outside the hull of their span's four control points, measured in whole numbers: docs/RULES.md,
+//! "Demand 3", which docs/HULL.md argues.
 //!
 //! A round draws a curve and asks for some points of it. A case is a point for which the premises hold: the curve is accepted,
 //! no knot is above 2^20 in size, and the parameter lies in the domain. It differs where the answer lies outside the widened hull, where

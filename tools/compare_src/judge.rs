@@ -1,6 +1,6 @@
 //! Whether a fit stores a number that is not finite, which the original does not tell. Its build is repeated here on plain doubles, in
-//! document 000's order, and every number that document 01 names is looked at when it is stored: knots, matrix, right sides, row
-//! multipliers, control points. The basis values are the original's own. What it comes to can be held to the original's answer.
+//! the order of the original's `spline.rs`, and every number that docs/RULES.md, "When 15 is given", names is looked at when it is
+//! stored: knots, matrix, right sides, row multipliers, control points. The basis values are the original's own. What it comes to can be held to the original's answer.
 
 use crate::told::{KNOTS, basis};
 
@@ -100,7 +100,7 @@ fn system(
     (matrix, sides)
 }
 
-/// Document 01's: from knot m on m - 1, up to knot 3 3, else the one that t lies in.
+/// docs/RULES.md, "Span": from knot m on m - 1, up to knot 3 3, else the one that t lies in.
 fn span(knots: &[f64], m: usize, t: f64) -> usize {
     if t >= knots[m] {
         return m - 1;

@@ -163,7 +163,7 @@ impl Layout {
     }
 }
 
-/// Document 01's uniform knots; none for fewer than 4 points.
+/// Uniform knots (docs/RULES.md); none for fewer than 4 points.
 pub fn uniform(n: usize) -> Vec<f64> {
     if n < 4 {
         return Vec::new();

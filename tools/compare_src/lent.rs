@@ -7,7 +7,7 @@ use original::spline::Dv;
 
 /// A value and its 27 partials.
 pub const WIDTH: usize = 28;
-/// Document 01's refusal for want of room.
+/// The refusal for want of room.
 pub const NO_ROOM: u64 = 14;
 
 const MOST: u64 = 27;

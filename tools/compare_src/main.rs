@@ -76,7 +76,7 @@ const SECTIONS: &[Section] = &[
     },
     Section {
         name: "records",
-        rounds: 500_000,
+        rounds: 505_000,
         run: records::run,
     },
     Section {

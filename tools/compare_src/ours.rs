@@ -1,4 +1,4 @@
-//! The proved functions, as include/threshdune.h has them. A C bool is taken as the byte it is:
+//! The proved functions, as include/threshdune.h and include/threshdune_parts.h have them. A C bool is taken as the byte it is:
 //! a third value would be a difference, not undefined behaviour of this program.
 
 mod c {
@@ -170,15 +170,11 @@ unsafe extern "C" {
         knots_len: usize,
         px: f64,
         py: f64,
-        out: *mut f64,
-        out_len: usize,
+        t: *mut f64,
     ) -> u64;
     pub fn threshdune_build_fit(
         coords: *const f64,
         coords_len: usize,
-        given: u64,
-        knots: *const f64,
-        knots_len: usize,
         work: *mut f64,
         work_len: usize,
         control: *mut f64,
@@ -221,16 +217,15 @@ unsafe extern "C" {
         coords_len: usize,
         knots: *const f64,
         knots_len: usize,
-        out: *mut f64,
-        out_len: usize,
+        length: *mut f64,
     ) -> u64;
     pub fn threshdune_domain(
         coords: *const f64,
         coords_len: usize,
         knots: *const f64,
         knots_len: usize,
-        out: *mut f64,
-        out_len: usize,
+        from: *mut f64,
+        to: *mut f64,
     ) -> u64;
     pub fn threshdune_samples(
         coords: *const f64,
@@ -266,8 +261,8 @@ macro_rules! records {
 records! {
     threshdune_record_evaluate, (t: f64, order: u64, out: *mut f64, out_len: usize);
     threshdune_record_point_tangent, (t: f64, out: *mut f64, out_len: usize);
-    threshdune_record_length, (out: *mut f64, out_len: usize);
-    threshdune_record_domain, (out: *mut f64, out_len: usize);
-    threshdune_record_closest, (px: f64, py: f64, out: *mut f64, out_len: usize);
+    threshdune_record_length, (length: *mut f64);
+    threshdune_record_domain, (from: *mut f64, to: *mut f64);
+    threshdune_record_closest, (px: f64, py: f64, t: *mut f64);
     threshdune_record_samples, (per_span: u64, out: *mut f64, out_len: usize, count: *mut u64);
 }

@@ -89,7 +89,7 @@ fn unary((name, ours, theirs): &Unary, random: &mut Random, flavour: Flavour, ta
     room.judge(tally, refusal, &[wanted], || format!("{name} {}", a.tell()));
 }
 
-/// The original has no answer past its slice; above 26 and there, document 01 has +0.0 with no partials.
+/// The original has no answer past its slice; above 26 and there it is +0.0 with no partials (docs/RULES.md, "Partials").
 fn var(random: &mut Random, flavour: Flavour, tally: &mut Tally) {
     let xs = Lent::draw(random, flavour, 1);
     let mut room = Room::draw(random, 1);
@@ -146,7 +146,7 @@ fn past_the_ends(random: &mut Random, flavour: Flavour, tally: &mut Tally) {
     });
 }
 
-/// The original never asks this; document 01's refusal 15 does.
+/// The original never asks this; it is what refusal 15 asks of a number with partials.
 fn is_fine(random: &mut Random, flavour: Flavour, tally: &mut Tally) {
     let mut a = Lent::draw(random, flavour, 1);
     if random.once_in(2) {

@@ -19,7 +19,7 @@ pub fn run(random: &mut Random, rounds: u64) -> Tally {
     tally
 }
 
-/// Document 01's rule. A NaN is neither at nor below 0, and its root is a NaN.
+/// The rule of docs/RULES.md, "Root". A NaN is neither at nor below 0, and its root is a NaN.
 fn root(x: f64) -> f64 {
     if x <= 0.0 { 0.0 } else { black_box(x).sqrt() }
 }

@@ -1,6 +1,6 @@
-//! Document 01's table of refusals, for control points and for fit points: the first that applies is the
+//! The table of docs/RULES.md, "Refusals", for control points and for fit points: the first row that applies is the
 //! answer. Each row is asked whether an earlier one applies or not, so that cases in which the order
-//! decides can be counted. The rows are written from the document, not from the original.
+//! decides can be counted. The rows are written from that page, not from the original.
 
 use original::spline::check;
 
@@ -21,7 +21,7 @@ pub struct Table {
 }
 
 impl Table {
-    /// The next row. Rows come in the document's order, which is that of their numbers.
+    /// The next row. Rows come in the table's order, which is that of their numbers.
     pub fn row(mut self, number: u64, applies: bool) -> Self {
         assert!(number > self.last, "row {number} after {}", self.last);
         self.last = number;
@@ -101,7 +101,7 @@ fn crowded(knots: &[f64], n: u64) -> bool {
     knots.iter().take(n as usize).skip(4).any(often)
 }
 
-/// What the original's `check` says of n control points, as the number of document 01 that its words stand for; 0 where it
+/// What the original's `check` says of n control points, as the number of the refusal that its words stand for; 0 where it
 /// accepts. Nothing of more points than the port takes.
 pub fn their_check(n: u64, knots: Option<&[f64]>) -> Option<u64> {
     (n <= MOST).then(|| numbered(check(n as usize, false, knots)))

@@ -1,12 +1,12 @@
 //! Sheets, and what the original answers to them.
 //!
 //!     sheets answer                        a sheet from standard input, its answer to standard output: the oracle's sheet mode
-//!     sheets record                        the recorded cases, to standard output
-//!     sheets draw SEED COUNT               so many random cases, in the same form; sheets longer than it has room for are left out
+//!     sheets record WHAT                   the recorded sheets, or their answers, to standard output
+//!     sheets draw WHAT SEED COUNT          the same of so many random sheets; those longer than the program has room for are left out
 //!     sheets compare SEED COUNT COMMAND..  runs the command on each of those; status 1 if an answer differs
 //!
-//! A case is a line with the lengths of the sheet and of its answer, 8 upper-case hexadecimal digits each with a space between them, then the
-//! bytes of the one and of the other.
+//! WHAT is `sheets`: before each a line with its length in 8 upper-case hexadecimal digits, as the program sheet_cases reads them. Or it is
+//! `answers`: before each a line with its number, as that program writes them.
 
 // Only parts of what tools/compare has are needed here.
 #[allow(dead_code)]
@@ -36,16 +36,21 @@ fn main() {
     let words: Vec<&str> = arguments.iter().map(String::as_str).collect();
     let done = match words[..] {
         ["answer"] => answer(),
-        ["record"] => write_cases(recorded::sheets().into_iter()),
-        ["draw", seed, count] => {
+        ["record", what] => write(what, recorded::sheets().into_iter()),
+        ["draw", what, seed, count] => {
             let (seed, count) = (number(seed), number(count));
             let sheets = (0..count).map(|k| draw::drawn(seed, k).text);
-            write_cases(sheets.filter(|sheet| sheet.len() <= oracle::LONGEST + 1))
+            write(
+                what,
+                sheets.filter(|sheet| sheet.len() <= oracle::LONGEST + 1),
+            )
         }
         ["compare", seed, count, ref command @ ..] if !command.is_empty() => {
             exit(compare::run(number(seed), number(count), command))
         }
-        _ => fail("usage: sheets answer | record | draw SEED COUNT | compare SEED COUNT COMMAND.."),
+        _ => fail(
+            "usage: sheets answer | record WHAT | draw WHAT SEED COUNT | compare SEED COUNT COMMAND..",
+        ),
     };
     done.unwrap_or_else(|error| fail(&error.to_string()));
 }
@@ -66,13 +71,20 @@ fn answer() -> io::Result<()> {
     io::stdout().write_all(&oracle::answer(&sheet))
 }
 
-fn write_cases(sheets: impl Iterator<Item = Vec<u8>>) -> io::Result<()> {
+fn write(what: &str, sheets: impl Iterator<Item = Vec<u8>>) -> io::Result<()> {
     let mut out = io::BufWriter::new(io::stdout().lock());
-    for sheet in sheets {
-        let answer = oracle::answer(&sheet);
-        writeln!(out, "{:08X} {:08X}", sheet.len(), answer.len())?;
-        out.write_all(&sheet)?;
-        out.write_all(&answer)?;
+    for (sheet, number) in sheets.zip(1u64..) {
+        match what {
+            "sheets" => {
+                writeln!(out, "{:08X}", sheet.len())?;
+                out.write_all(&sheet)?;
+            }
+            "answers" => {
+                writeln!(out, "# {number}")?;
+                out.write_all(&oracle::answer(&sheet))?;
+            }
+            _ => fail("neither sheets nor answers"),
+        }
     }
     out.flush()
 }

@@ -1,4 +1,4 @@
-//! The oracle's sheet mode: what document 01 has the sheet program answer, by the original. A sheet is read line by line, which is not how the
+//! The oracle's sheet mode: what docs/RULES.md, "The sheet", has the program answer, by the original. A sheet is read line by line, which is not how the
 //! program does it; the rows of refusals and the judge of 15 are those of tools/compare.
 
 use crate::judge::Fit;

@@ -3,7 +3,7 @@
 use crate::oracle::{LONGEST, MOST_KNOTS, MOST_PARAMETERS, MOST_POINTS, Sheet};
 use crate::text::{counts, text};
 
-/// Document 01's case S.
+/// Case S of docs/RULES.md, "The sheet".
 pub fn case_s() -> Sheet {
     Sheet {
         fit: false,

@@ -93,7 +93,7 @@ fn of_original(curve: &Curve<f64>, t: f64) -> Orders {
     [0, 1, 2, 3].map(|k: usize| orders[k].val())
 }
 
-/// The curve over these knots at t, by document 01's rules.
+/// The curve over these knots at t, by the rules of docs/RULES.md, "Evaluate".
 fn orders(knots: &[f64], t: f64, fused: Fused) -> Orders {
     let (lo, hi) = (knots[0], knots[knots.len() - 1]);
     if (lo..=hi).contains(&t) {

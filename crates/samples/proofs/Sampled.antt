@@ -14,7 +14,7 @@ use lib.Ieee.{Float, nan, lt}
 use lib.Ieee.Scale.{finite}
 use Rattle.meaning.specs.Scalar.{plain}
 use Rattle.meaning.specs.Table.{at1}
-use Rattle.meaning.specs.Loops.{turns, run}
+use Rattle.meaning.specs.Loops.{turns}
 use Rattle.refusal.specs.declared.Refusal.{Refusal}
 use Rattle.refusal.specs.Refusals.{row, firstOf, isNone}
 use Rattle.meaning.specs.Search.{some, listed}
@@ -25,7 +25,7 @@ use Rattle.shape.specs.Shape.{Shape}
 use Rattle.outcome.specs.Outcome.{someWild, deliveryRules, Outcome, outcome, answering}
 use Rattle.outcome.proofs.Doors.{Leaves}
 use Rattle.samples.specs.Walk.{Walked, walked, walkOf}
-use Rattle.samples.specs.Samples.{sampleAt, risingSamples, pairSamples, samplesOf, counted, counting}
+use Rattle.samples.specs.Samples.{sampleAt, risingSamples, pairSamples, pairsOf, samplesOf, counted, counting}
 
 -- sample s of the list
 pub sample-is : (w0 w1 : Float) (per s : ℕ) → s < per → getD (listed 0 per (sampleAt w0 w1 per)) s nan ≡ sampleAt w0 w1 per s
@@ -126,14 +126,14 @@ delivered-front room l r out {k} {o} e n a =
 
 module _ (c : Shape Float) (per : ℕ) where
   abbrev pairs : List Float
-  pairs = run 0 (c .n + 3) (λ i l. l ++ pairSamples (c .knots) per i) []
+  pairs = pairsOf (c .n) (c .knots) per
 
-  pub samples-count : {at : ℕ} → at ≡ length (run 0 (c .n + 3) (λ i l. l ++ pairSamples (c .knots) per i) []) → length (samplesOf c per) ≡ at + 1
+  pub samples-count : {at : ℕ} → at ≡ length (pairsOf (c .n) (c .knots) per) → length (samplesOf c per) ≡ at + 1
   unfolding samplesOf
   samples-count e = length-append pairs (at1 plain (c .knots) (c .n + 3) ∷ []) ∙ ap (λ (k : ℕ). k + 1) (sym e)
 
-  pub samples-room : (room₀ : List Float) {room : List Float} {at : ℕ} → at < length room₀ → at ≡ length (run 0 (c .n + 3) (λ i l. l ++ pairSamples (c .knots) per i) [])
-      → room ≡ run 0 (c .n + 3) (λ i l. l ++ pairSamples (c .knots) per i) [] ++ drop at room₀
+  pub samples-room : (room₀ : List Float) {room : List Float} {at : ℕ} → at < length room₀ → at ≡ length (pairsOf (c .n) (c .knots) per)
+      → room ≡ pairsOf (c .n) (c .knots) per ++ drop at room₀
       → set room at (at1 plain (c .knots) (c .n + 3)) ≡ samplesOf c per ++ drop (at + 1) room₀
   unfolding samplesOf
   samples-room room₀ {room} {at} h e q =

@@ -28,9 +28,13 @@ risingSamples w0 w1 per = cond (lt w0 w1) (listed 0 per (sampleAt w0 w1 per)) []
 abbrev pub pairSamples : List Float → ℕ → ℕ → List Float
 pairSamples ks per i = risingSamples (at1 plain ks i) (at1 plain ks (i + 1)) per
 
--- each pair in turn, and the domain's end
+-- each pair of n + 4 knots in turn
+abbrev pub pairsOf : ℕ → List Float → ℕ → List Float
+pairsOf n ks per = run 0 (n + 3) (λ i l. l ++ pairSamples ks per i) []
+
+-- and the domain's end
 unfoldable pub samplesOf : Shape Float → ℕ → List Float
-samplesOf c per = run 0 (c .n + 3) (λ i l. l ++ pairSamples (c .knots) per i) [] ++ (at1 plain (c .knots) (c .n + 3) ∷ [])
+samplesOf c per = pairsOf (c .n) (c .knots) per ++ (at1 plain (c .knots) (c .n + 3) ∷ [])
 
 -- an outcome, and beside its slice a lent number: how many numbers were written, or what it was
 pub record Counted : Type 0 where

@@ -4,14 +4,13 @@ ghost use mathlib.Core.List.{[], _++_};
 ghost use Prim.Native.Nat.{_+_, _*_, _/_, _≤_};
 ghost use lib.ListN.{length, take, drop};
 ghost use lib.Seq.{paste};
-ghost use Rattle.meaning.specs.Loops.{run};
 ghost use Rattle.meaning.specs.Search.{listed};
 ghost use Rattle.knots.proofs.Accepted.{Accepted};
 ghost use Rattle.shape.specs.Offered.{inSlices};
 ghost use Rattle.shape.specs.Trusting.{trusting};
 ghost use Rattle.curve.specs.Record.{byRecord};
 ghost use Rattle.samples.specs.Walk.{walked, walkOf};
-ghost use Rattle.samples.specs.Samples.{sampleAt, risingSamples, pairSamples, counted, samplesAnswer};
+ghost use Rattle.samples.specs.Samples.{sampleAt, risingSamples, pairsOf, counted, samplesAnswer};
 use curve::Curve;
 use refusal::Refusal;
 
@@ -40,7 +39,7 @@ fn sample_rising(room: &mut [f64], at: usize, w0: f64, w1: f64, per: usize) -> u
 // Puts the samples of each rising pair of knots into room, one pair after the other, and answers how many there are.
 fn sample_pairs<'a>(u: &'a [f64; 70], n: usize, per: usize, room: &mut [f64]) -> usize
     requires { ⌜ n ≤ 66 ⌝ ∗ ⌜ per ≤ 16 ⌝ ∗ ⌜ 1105 ≤ length (now room) ⌝ }
-    ensures { λ r. ⌜ r ≤ 1104 ⌝ ∗ ⌜ r ≡ length (run 0 (n + 3) (λ i l. l ++ pairSamples (now (u .entry)) per i) []) ⌝ ∗ ⌜ now (room .exit) ≡ run 0 (n + 3) (λ i l. l ++ pairSamples (now (u .entry)) per i) [] ++ drop r (now (room .entry)) ⌝ }
+    ensures { λ r. ⌜ r ≤ 1104 ⌝ ∗ ⌜ r ≡ length (pairsOf n (now (u .entry)) per) ⌝ ∗ ⌜ now (room .exit) ≡ pairsOf n (now (u .entry)) per ++ drop r (now (room .entry)) ⌝ }
 {
     let mut at = 0;
     let pairs = n + 3;

@@ -228,7 +228,8 @@ pub extern "C" fn threshdune_partials_add(
     out: &mut [f64],
     count: &mut u64,
 ) -> u64
-    ensures { λ r. ⌜ AnsweredD (addDv (readDv (now (a .entry)) 0 «a_count») (readDv (now (b .entry)) 0 «b_count»)) (now (out .entry)) (now (count .entry)) r (now (out .exit)) (now (count .exit)) ⌝ }
+    ensures { λ r. ⌜ AnsweredD (addDv (readDv (now (a .entry)) 0 «a_count») (readDv (now (b .entry)) 0 «b_count»))
+        (now (out .entry)) (now (count .entry)) r (now (out .exit)) (now (count .exit)) ⌝ }
 {
     let x = c_values::read_value(a, a_count as usize);
     let y = c_values::read_value(b, b_count as usize);
@@ -245,7 +246,8 @@ pub extern "C" fn threshdune_partials_sub(
     out: &mut [f64],
     count: &mut u64,
 ) -> u64
-    ensures { λ r. ⌜ AnsweredD (subDv (readDv (now (a .entry)) 0 «a_count») (readDv (now (b .entry)) 0 «b_count»)) (now (out .entry)) (now (count .entry)) r (now (out .exit)) (now (count .exit)) ⌝ }
+    ensures { λ r. ⌜ AnsweredD (subDv (readDv (now (a .entry)) 0 «a_count») (readDv (now (b .entry)) 0 «b_count»))
+        (now (out .entry)) (now (count .entry)) r (now (out .exit)) (now (count .exit)) ⌝ }
 {
     let x = c_values::read_value(a, a_count as usize);
     let y = c_values::read_value(b, b_count as usize);
@@ -262,7 +264,8 @@ pub extern "C" fn threshdune_partials_mul(
     out: &mut [f64],
     count: &mut u64,
 ) -> u64
-    ensures { λ r. ⌜ AnsweredD (mulDv (readDv (now (a .entry)) 0 «a_count») (readDv (now (b .entry)) 0 «b_count»)) (now (out .entry)) (now (count .entry)) r (now (out .exit)) (now (count .exit)) ⌝ }
+    ensures { λ r. ⌜ AnsweredD (mulDv (readDv (now (a .entry)) 0 «a_count») (readDv (now (b .entry)) 0 «b_count»))
+        (now (out .entry)) (now (count .entry)) r (now (out .exit)) (now (count .exit)) ⌝ }
 {
     let x = c_values::read_value(a, a_count as usize);
     let y = c_values::read_value(b, b_count as usize);
@@ -279,7 +282,8 @@ pub extern "C" fn threshdune_partials_div(
     out: &mut [f64],
     count: &mut u64,
 ) -> u64
-    ensures { λ r. ⌜ AnsweredD (divDv (readDv (now (a .entry)) 0 «a_count») (readDv (now (b .entry)) 0 «b_count»)) (now (out .entry)) (now (count .entry)) r (now (out .exit)) (now (count .exit)) ⌝ }
+    ensures { λ r. ⌜ AnsweredD (divDv (readDv (now (a .entry)) 0 «a_count») (readDv (now (b .entry)) 0 «b_count»))
+        (now (out .entry)) (now (count .entry)) r (now (out .exit)) (now (count .exit)) ⌝ }
 {
     let x = c_values::read_value(a, a_count as usize);
     let y = c_values::read_value(b, b_count as usize);
@@ -324,7 +328,8 @@ pub extern "C" fn threshdune_partials_overshoot(
     out: &mut [f64],
     count: &mut u64,
 ) -> u64
-    ensures { λ r. ⌜ AnsweredD (overshootDv (readDv (now (t .entry)) 0 «t_count») lo hi) (now (out .entry)) (now (count .entry)) r (now (out .exit)) (now (count .exit)) ⌝ }
+    ensures { λ r. ⌜ AnsweredD (overshootDv (readDv (now (t .entry)) 0 «t_count») lo hi)
+        (now (out .entry)) (now (count .entry)) r (now (out .exit)) (now (count .exit)) ⌝ }
 {
     let x = c_values::read_value(t, t_count as usize);
     c_values::answer(x.overshoot(lo, hi), out, count)
@@ -410,7 +415,8 @@ pub extern "C" fn threshdune_plane_partials_add(
     out: &mut [f64],
     counts: &mut [u64],
 ) -> u64
-    ensures { λ r. ⌜ AnsweredV (addV dual (readV (now (a .entry)) (now («a_counts» .entry))) (readV (now (b .entry)) (now («b_counts» .entry)))) (now (out .entry)) (now (counts .entry)) r (now (out .exit)) (now (counts .exit)) ⌝ }
+    ensures { λ r. ⌜ AnsweredV (addV dual (readV (now (a .entry)) (now («a_counts» .entry))) (readV (now (b .entry)) (now («b_counts» .entry))))
+        (now (out .entry)) (now (counts .entry)) r (now (out .exit)) (now (counts .exit)) ⌝ }
 {
     let x = c_values::read_vector(a, a_counts);
     let y = c_values::read_vector(b, b_counts);
@@ -427,7 +433,8 @@ pub extern "C" fn threshdune_plane_partials_sub(
     out: &mut [f64],
     counts: &mut [u64],
 ) -> u64
-    ensures { λ r. ⌜ AnsweredV (subV dual (readV (now (a .entry)) (now («a_counts» .entry))) (readV (now (b .entry)) (now («b_counts» .entry)))) (now (out .entry)) (now (counts .entry)) r (now (out .exit)) (now (counts .exit)) ⌝ }
+    ensures { λ r. ⌜ AnsweredV (subV dual (readV (now (a .entry)) (now («a_counts» .entry))) (readV (now (b .entry)) (now («b_counts» .entry))))
+        (now (out .entry)) (now (counts .entry)) r (now (out .exit)) (now (counts .exit)) ⌝ }
 {
     let x = c_values::read_vector(a, a_counts);
     let y = c_values::read_vector(b, b_counts);
@@ -444,7 +451,8 @@ pub extern "C" fn threshdune_plane_partials_scale(
     out: &mut [f64],
     counts: &mut [u64],
 ) -> u64
-    ensures { λ r. ⌜ AnsweredV (scaleV dual (readV (now (a .entry)) (now («a_counts» .entry))) (readDv (now (k .entry)) 0 «k_count»)) (now (out .entry)) (now (counts .entry)) r (now (out .exit)) (now (counts .exit)) ⌝ }
+    ensures { λ r. ⌜ AnsweredV (scaleV dual (readV (now (a .entry)) (now («a_counts» .entry))) (readDv (now (k .entry)) 0 «k_count»))
+        (now (out .entry)) (now (counts .entry)) r (now (out .exit)) (now (counts .exit)) ⌝ }
 {
     let x = c_values::read_vector(a, a_counts);
     let y = c_values::read_value(k, k_count as usize);
@@ -459,7 +467,8 @@ pub extern "C" fn threshdune_plane_partials_unit(
     out: &mut [f64],
     counts: &mut [u64],
 ) -> u64
-    ensures { λ r. ⌜ AnsweredV (unitV dual (readV (now (a .entry)) (now («a_counts» .entry)))) (now (out .entry)) (now (counts .entry)) r (now (out .exit)) (now (counts .exit)) ⌝ }
+    ensures { λ r. ⌜ AnsweredV (unitV dual (readV (now (a .entry)) (now («a_counts» .entry))))
+        (now (out .entry)) (now (counts .entry)) r (now (out .exit)) (now (counts .exit)) ⌝ }
 {
     let x = c_values::read_vector(a, a_counts);
     c_values::answer_vector(x.unit(), out, counts)
@@ -475,7 +484,8 @@ pub extern "C" fn threshdune_plane_partials_dot(
     out: &mut [f64],
     count: &mut u64,
 ) -> u64
-    ensures { λ r. ⌜ AnsweredD (dotV dual (readV (now (a .entry)) (now («a_counts» .entry))) (readV (now (b .entry)) (now («b_counts» .entry)))) (now (out .entry)) (now (count .entry)) r (now (out .exit)) (now (count .exit)) ⌝ }
+    ensures { λ r. ⌜ AnsweredD (dotV dual (readV (now (a .entry)) (now («a_counts» .entry))) (readV (now (b .entry)) (now («b_counts» .entry))))
+        (now (out .entry)) (now (count .entry)) r (now (out .exit)) (now (count .exit)) ⌝ }
 {
     let x = c_values::read_vector(a, a_counts);
     let y = c_values::read_vector(b, b_counts);
@@ -490,7 +500,8 @@ pub extern "C" fn threshdune_plane_partials_norm(
     out: &mut [f64],
     count: &mut u64,
 ) -> u64
-    ensures { λ r. ⌜ AnsweredD (normV dual (readV (now (a .entry)) (now («a_counts» .entry)))) (now (out .entry)) (now (count .entry)) r (now (out .exit)) (now (count .exit)) ⌝ }
+    ensures { λ r. ⌜ AnsweredD (normV dual (readV (now (a .entry)) (now («a_counts» .entry))))
+        (now (out .entry)) (now (count .entry)) r (now (out .exit)) (now (count .exit)) ⌝ }
 {
     let x = c_values::read_vector(a, a_counts);
     c_values::answer(x.norm(), out, count)
@@ -509,7 +520,8 @@ pub extern "C" fn threshdune_partials_basis(
     out: &mut [f64],
     counts: &mut [u64],
 ) -> u64
-    ensures { λ r. ⌜ AnsweredB (derivativesOf dual (readSix (now (w .entry)) (now («w_counts» .entry))) 2 (readDv (now (t .entry)) 0 «t_count») order) (now (out .entry)) (now (counts .entry)) r (now (out .exit)) (now (counts .exit)) ⌝ }
+    ensures { λ r. ⌜ AnsweredB (derivativesOf dual (readSix (now (w .entry)) (now («w_counts» .entry))) 2 (readDv (now (t .entry)) 0 «t_count») order)
+        (now (out .entry)) (now (counts .entry)) r (now (out .exit)) (now (counts .exit)) ⌝ }
 {
     let six = c_values::read_six(w, w_counts);
     let x = c_values::read_value(t, t_count as usize);

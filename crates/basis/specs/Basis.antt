@@ -11,7 +11,7 @@ use lib.Ieee.{Float, binary64, mul, ofInt, ofBits}
 use Rattle.meaning.specs.Scalar.{Ops}
 use Rattle.meaning.specs.Loops.{run}
 use Rattle.meaning.specs.Table.{at1, at2, put2}
-use Rattle.basis.specs.Triangle.{zeros, triangleOf}
+use Rattle.basis.specs.Triangle.{fourZeros, triangleOf}
 use Rattle.basis.specs.Derivatives.{Coefs, orderOf, startCoefs}
 
 -- 3.0, the degree
@@ -31,7 +31,7 @@ pub record Scaling (A : Type 0) : Type 0 where
 module _ {A : Type 0} (o : Ops A) where
   -- there is room for the orders 0 to 4
   abbrev pub noOrders : List (List A)
-  noOrders = replicate 5 (zeros o)
+  noOrders = replicate 5 (fourZeros o)
 
   -- the values: row 0 from the table's last column
   unfoldable pub valuesOf : List (List A) → List (List A)

@@ -10,7 +10,7 @@ use Rattle.meaning.specs.Scalar.{Ops, zero64, one64}
 use Rattle.meaning.specs.Loops.{run}
 use Rattle.meaning.specs.Table.{at1, at2}
 use Rattle.basis_columns.specs.Columns.{below, columnAt, firstJ, endJ}
-use Rattle.basis.specs.Triangle.{zeros}
+use Rattle.basis.specs.Triangle.{fourZeros}
 
 -- A2.3's two alternating rows `a[s1]` and `a[s2]`, and the sum `d`
 pub record Coefs (A : Type 0) : Type 0 where
@@ -71,4 +71,4 @@ module _ {A : Type 0} (o : Ops A) where
 
   -- before the loop over k: zeros but for the 1.0 at `a[0][0]`
   abbrev pub startCoefs : Coefs A
-  startCoefs = record { old = set (zeros o) 0 (o .cst one64); new = zeros o; d = o .cst zero64 }
+  startCoefs = record { old = set (fourZeros o) 0 (o .cst one64); new = fourZeros o; d = o .cst zero64 }

@@ -26,8 +26,8 @@ pub record Sides (A : Type 0) : Type 0 where
 
 module _ {A : Type 0} (o : Ops A) where
   -- four scalars +0.0
-  abbrev pub zeros : List A
-  zeros = replicate 4 (o .cst zero64)
+  abbrev pub fourZeros : List A
+  fourZeros = replicate 4 (o .cst zero64)
 
   -- from `right[r + 1]`, `left[j - r]`, `ndu[r][j - 1]` and the turn before
   abbrev pub cellOf : A → A → A → A → Cell A
@@ -57,7 +57,7 @@ module _ {A : Type 0} (o : Ops A) where
 
   -- before the outer loop: zeros but for the 1.0 at `ndu[0][0]`
   abbrev pub noSides : Sides A
-  noSides = record { ndu = put2 (replicate 4 zeros) 0 0 (o .cst one64); left = zeros; right = zeros }
+  noSides = record { ndu = put2 (replicate 4 fourZeros) 0 0 (o .cst one64); left = fourZeros; right = fourZeros }
 
   -- the table of span i of the knots u, at t
   unfoldable pub triangleOf : List A → ℕ → A → List (List A)

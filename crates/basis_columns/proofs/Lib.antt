@@ -1,2 +1,3 @@
--- The laws of signed numbers as the columns need them.
+-- The laws of signed numbers as the columns need them, and of the columns.
 pub mod Signed
+pub mod Columns

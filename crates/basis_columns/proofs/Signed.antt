@@ -10,7 +10,7 @@ use lib.Dec.{T, ltb}
 use mir.Syntax.{w64}
 use mir.Val.{SFits, Fits, toZ, ofZ}
 use mir.ValLaws.{toZ-ofZ, toZ-pos}
-use Rattle.basis_columns.specs.Columns.{below}
+use Rattle.basis_columns.specs.Columns.{below, index}
 
 small : {z : ℤ} → mag z ≤ 1000 → SFits w64 z
 small h = record { sfits = omega arith }
@@ -71,10 +71,9 @@ natAbs-mag : (z : ℤ) → natAbs z ≤ mag z + 1
 natAbs-mag (pos n) = omega arith
 natAbs-mag (negsuc n) = omega arith
 
-natAbs-neg : (z : ℤ) → natAbs (negℤ z) ≡ natAbs z
-natAbs-neg (pos zero) = refl
-natAbs-neg (pos (suc n)) = refl
-natAbs-neg (negsuc n) = refl
+natAbs-index : (z : ℤ) → T (nonNeg z) → natAbs z ≡ index z
+natAbs-index (pos n) t = refl
+natAbs-index (negsuc n) t = absurd t
 
 module _ {y z : ℤ} (e : y ≡ z) (h : mag z ≤ 999) where
   pub neg-fits : SFits w64 (pos 0 -ℤ y)
@@ -89,20 +88,20 @@ module _ {y z : ℤ} (e : y ≡ z) (h : mag z ≤ 999) where
   pub neg-cast : T (nonNeg (negℤ z)) → T (nonNeg (toZ w64 (ofZ w64 (pos 0 -ℤ y)))) × Fits w64 (natAbs (toZ w64 (ofZ w64 (pos 0 -ℤ y))))
   neg-cast t = rw neg-is (t, record { fits = omega (arith, natAbs-mag (negℤ z), mag-neg z h) })
 
-  pub neg-size : natAbs (toZ w64 (ofZ w64 (pos 0 -ℤ y))) ≡ natAbs (negℤ z)
-  neg-size = ap natAbs neg-is
+  pub cast-is : T (nonNeg z) → natAbs y ≡ index z
+  cast-is t = ap natAbs e ∙ natAbs-index z t
 
-  pub neg-abs : natAbs (toZ w64 (ofZ w64 (pos 0 -ℤ y))) ≡ natAbs z
-  neg-abs = neg-size ∙ natAbs-neg z
+  pub neg-cast-is : T (nonNeg (negℤ z)) → natAbs (toZ w64 (ofZ w64 (pos 0 -ℤ y))) ≡ index (negℤ z)
+  neg-cast-is t = ap natAbs neg-is ∙ natAbs-index (negℤ z) t
 
 -- ---- the tests `z < 0` and `z >= -1`
 pub not-negative : (z : ℤ) → ltZ z (pos 0) ≡ false → T (nonNeg z)
 not-negative (pos n) h = tt
 not-negative (negsuc n) h = absurd (true≢false h)
 
-pub negative : (z : ℤ) → ltZ z (pos 0) ≡ true → T (nonNeg (negℤ z))
+pub negative : (z : ℤ) → ltZ z (pos 0) ≡ true → 0 ≡ index z
 negative (pos n) h = absurd (omega (arith, ltb-true n 0 h))
-negative (negsuc n) h = tt
+negative (negsuc n) h = refl
 
 pub below-minus-one : (z : ℤ) → leZ (negsuc 0) z ≡ false → T (nonNeg (negℤ z))
 below-minus-one (pos zero) h = tt

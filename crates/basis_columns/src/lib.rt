@@ -11,13 +11,13 @@ fn below_by(r: u8, k: u8) -> i64
     r as i64 - k as i64
 }
 
-// The column rk + j, and its size where it is below zero, which no loop of A2.3 asks for.
+// The column rk + j, and 0 where that is below zero, which no loop of A2.3 asks for.
 pub fn column_at(r: u8, k: u8, j: u8) -> usize
     ensures { λ q. ⌜ q ≡ columnAt (below r k) j ⌝ }
 {
     let at = below_by(r, k) + j as i64;
     if at < 0 {
-        return (-at) as usize;
+        return 0;
     }
     at as usize
 }

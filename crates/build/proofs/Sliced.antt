@@ -2,16 +2,14 @@
 use mathlib.Core.Path.{_≡_, refl, sym, ap, _∙_}
 use mathlib.Core.Bool.{Bool, true, false, _||_, cond}
 use mathlib.Core.List.{List}
-use Prim.Native.Nat.{ℕ, zero, suc, _+_, _-_, _*_, _≤_, zero-le}
+use Prim.Native.Nat.{ℕ, _+_, _*_, _≤_, zero-le}
 use native.Mathlib.Omega.{arith}
 use borrow.Author.Tests.{ltb-false, eqb-true}
 use lib.Dec.{ltb}
-use lib.ListN.{length, set, replicate, length-set, take, length-take}
+use lib.ListN.{length, take, length-take}
 use lib.Seq.{paste, paste-zero}
 use lib.Ieee.{Float}
-use Rattle.meaning.specs.Scalar.{plain, zero64}
-use Rattle.meaning.specs.Table.{at1}
-use Rattle.meaning.specs.Loops.{turns}
+use Rattle.meaning.proofs.Filling.{length-listed}
 use Rattle.meaning.proofs.Tests.{or-left, or-right}
 use Rattle.refusal.specs.Refusals.{Row, passes}
 use Rattle.refusal.proofs.Rows.{Passed}
@@ -31,19 +29,9 @@ use Rattle.fit.specs.Fit.{curveThrough, Making, making}
 use Rattle.build.specs.Build.{curveOf, storedFine, controlsIn, lacksWork, rulesOf, builtBy, inTurn, lacksRoom, sliced, builtInto}
 use Rattle.build.proofs.Doors.{rechecked}
 
--- the room of the control points in turn
-module _ (xs ys : List Float) where
-  abbrev turn : ℕ → List Float → List Float
-  turn i l = set (set l (2 * i) (at1 plain xs i)) (2 * i + 1) (at1 plain ys i)
-
-  kept : (k : ℕ) → length (turns 0 k turn (replicate 132 zero64)) ≡ 132
-  unfolding turns
-  kept zero = refl
-  kept (suc k) = simp length-set (kept k)
-
-  length-in-turn : (n : ℕ) → length (inTurn n xs ys) ≡ 132
-  unfolding inTurn
-  length-in-turn n = kept (n - 0)
+length-in-turn : (n : ℕ) (xs ys : List Float) → length (inTurn n xs ys) ≡ 2 * n
+unfolding inTurn
+length-in-turn n xs ys = length-listed 0 (2 * n) _
 
 -- none of the numbers is put
 put-none : (numbers out : List Float) → pasted numbers 0 out 0 ≡ out
@@ -77,9 +65,6 @@ module _ (form : Form) (coords : List Float) (given : Bool) (ks work control out
   module _ (passed : Passed rules) where
     sound : Accepted (take (curve .points + 4) (curve .knots)) (curve .points)
     sound = trusted _ (byRecord curve .shape) (rechecked form coords given ks short passed)
-
-    few : m ≤ 66
-    few = omega (arith, sound .room, points-are form coords given ks)
 
     stored : m + 4 ≤ length (curve .knots)
     stored = omega (arith, sound .sound .long, length-take (curve .points + 4) (curve .knots), points-are form coords given ks)
@@ -124,7 +109,7 @@ module _ (form : Form) (coords : List Float) (given : Bool) (ks work control out
         let points =
         put-built (λ d. inTurn (d .points) (d .xs) (d .ys)) (λ d. 2 * d .points) control refl
         (ap (λ (n : ℕ). inTurn n (curve .xs) (curve .ys)) are) (ap (λ (n : ℕ). 2 * n) are)
-        (λ z. (omega (arith, few z, length-in-turn (curve .xs) (curve .ys) m), ltb-false _ _ (or-left _ _ (room z)))) p in
+        (λ z. (omega (arith, length-in-turn m (curve .xs) (curve .ys)), ltb-false _ _ (or-left _ _ (room z)))) p in
         let knots =
         put-built (λ d. d .knots) (λ d. d .«knot_count») out refl refl (knots-are form coords given ks)
         (λ z. (stored z, ltb-false _ _ (or-right (ltb (length control) (2 * m)) _ (room z)))) k in

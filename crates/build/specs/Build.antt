@@ -1,14 +1,14 @@
 -- The one build of every form. docs/RULES.md, "Refusals", "Fit points" and "Work", decides. What the forms differ in stands first, a line for each
 -- form; what a build leaves behind is said once for all of them.
-use mathlib.Core.Bool.{Bool, _||_}
+use mathlib.Core.Bool.{Bool, _||_, cond}
 use mathlib.Core.List.{List}
-use Prim.Native.Nat.{ℕ, _+_, _*_}
-use lib.ListN.{length, set, replicate}
-use lib.Dec.{ltb}
+use Prim.Native.Nat.{ℕ, _+_, _*_, _/_, _%_}
+use lib.ListN.{length}
+use lib.Dec.{ltb, eqb}
 use lib.Ieee.{Float}
-use Rattle.meaning.specs.Scalar.{plain, zero64}
+use Rattle.meaning.specs.Scalar.{plain}
 use Rattle.meaning.specs.Table.{at1}
-use Rattle.meaning.specs.Loops.{run}
+use Rattle.meaning.specs.Search.{listed}
 use Rattle.refusal.specs.declared.Refusal.{Refusal}
 use Rattle.refusal.specs.Refusals.{Row, firstOf}
 use Rattle.knots.specs.declared.Form.{Form}
@@ -72,9 +72,9 @@ built form coords given ks work = builtBy form coords given ks (lacksWork form c
 
 -- ---- answered in two slices, the control points x, y in turn and the knots
 
--- m control points, x and y in turn, in a room of 132
+-- m control points, x and y in turn
 unfoldable pub inTurn : ℕ → List Float → List Float → List Float
-inTurn m xs ys = run 0 m (λ i l. set (set l (2 * i) (at1 plain xs i)) (2 * i + 1) (at1 plain ys i)) (replicate 132 zero64)
+inTurn m xs ys = listed 0 (2 * m) (λ j. at1 plain (cond (eqb (j % 2) 0) xs ys) (j / 2))
 
 -- one of the two is short: 2m numbers for m control points, and m + 4 knots
 abbrev pub lacksRoom : Form → List Float → List Float → List Float → Bool

@@ -1,7 +1,8 @@
 // The one build of every form: by value, or in slices.
 ghost use mathlib.Core.Path.{_≡_};
 ghost use mathlib.Core.Bool.{_||_};
-ghost use Prim.Native.Nat.{_≤_};
+ghost use Prim.Native.Nat.{_*_, _≤_};
+ghost use lib.ListN.{length, take};
 ghost use Rattle.fit.specs.Fit.{making};
 ghost use Rattle.build.specs.Build.{controlsIn, lacksWork, builtBy, built, inTurn, sliced, builtInto};
 use curve::Built;
@@ -47,10 +48,11 @@ pub fn build(form: Form, coords: &[f64], given: bool, knots: &[f64], work: &mut 
 
 // ---- in slices
 
-// Control points x, y in turn.
+// Control points x, y in turn, at the front.
 fn in_turn(xs: [f64; 66], ys: [f64; 66], n: usize) -> [f64; 132]
     requires { ⌜ n ≤ 66 ⌝ }
-    ensures { λ r. ⌜ r ≡ inTurn n xs ys ⌝ }
+    ensures { λ r. ⌜ take (2 * n) r ≡ inTurn n xs ys ⌝ }
+    ensures { λ r. ⌜ 2 * n ≤ length r ⌝ }
 {
     let mut a = [0.0; 132];
     for i in 0..n {

@@ -7,7 +7,9 @@ use Rattle.meaning.specs.Scalar.{zero64}
 use Rattle.refusal.specs.declared.Refusal.{Refusal}
 use Rattle.buffer.specs.Pasted.{pasted}
 use Rattle.outcome.specs.Told.{Values}
+use Rattle.shape.specs.Offered.{Offered}
 use Rattle.curve.specs.declared.Curve.{Curve}
+use Rattle.curve.specs.Record.{byRecord}
 
 -- ---- in
 
@@ -20,6 +22,10 @@ roomOf k s = pasted s (min (length s) k) (replicate k zero64) 0
 unfoldable pub readCurve : ℕ → ℕ → List Float → List Float → List Float → Curve
 unfolding roomOf
 readCurve n k xs ys ks = record { points = n; «knot_count» = k; xs = roomOf 66 xs; ys = roomOf 66 ys; knots = roomOf 70 ks }
+
+-- the same, offered
+abbrev pub asRecord : ℕ → ℕ → List Float → List Float → List Float → Offered
+asRecord n k xs ys ks = byRecord (readCurve n k xs ys ks)
 
 -- ---- out: the refusal, and what lies behind a lent pointer afterwards; a refusal leaves it as it was
 

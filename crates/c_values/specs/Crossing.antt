@@ -2,13 +2,12 @@
 use mathlib.Core.Path.{_≡_}
 use Prim.Native.Nat.{ℕ, _+_, _*_, _/_, _%_}
 use mathlib.Core.Bool.{Bool, not, _||_, cond}
-use mathlib.Core.List.{List, [], _∷_}
-use lib.ListN.{length, getD, set}
+use mathlib.Core.List.{List, [], _∷_, _++_, map}
+use lib.ListN.{length, getD}
 use lib.Dec.{ltb, eqb}
 use lib.Seq.{paste}
 use lib.Ieee.{Float}
 use Rattle.meaning.specs.Scalar.{zero64}
-use Rattle.meaning.specs.Loops.{run}
 use Rattle.meaning.specs.Table.{at2}
 use Rattle.meaning.specs.Search.{listed}
 use Rattle.partials.specs.declared.Dv.{Dv}
@@ -46,34 +45,29 @@ pub record AnsweredD (d : Dv) (out : List Float) (n : ℕ) (refusal : ℕ) (out�
   pub written : out′ ≡ cond (ltb (length out) 28) out (paste out 0 (d .v ∷ d .g) 28)
   pub counted : n′ ≡ cond (ltb (length out) 28) n (d .n)
 
--- what is answered in two slices, numbers and counts: how many entries each has to have, and what they hold afterwards
-abbrev pub noRoom : ℕ → ℕ → List Float → List ℕ → Bool
-noRoom k m out ns = ltb (length out) k || ltb (length ns) m
+-- values with partials one behind the other in two slices: 28 numbers of each in the first, its count in the second
+unfoldable pub allNumbers : List Dv → List Float
+allNumbers [] = []
+allNumbers (d ∷ ds) = (d .v ∷ d .g) ++ allNumbers ds
 
-pub record AnsweredTwo (k m : ℕ) (numbers : List Float) (counts : List ℕ) (out : List Float) (ns : List ℕ) (refusal : ℕ) (out′ : List Float) (ns′ : List ℕ) : Type 0 where
-  pub number : refusal ≡ cond (noRoom k m out ns) 14 0
-  pub written : out′ ≡ cond (noRoom k m out ns) out numbers
-  pub counted : ns′ ≡ cond (noRoom k m out ns) ns counts
+abbrev pub noRoom : List Dv → List Float → List ℕ → Bool
+noRoom values out ns = ltb (length out) (28 * length values) || ltb (length ns) (length values)
 
--- a vector with partials: the 28 numbers of each value, and the two counts
+pub record AnsweredAll (values : List Dv) (out : List Float) (ns : List ℕ) (refusal : ℕ) (out′ : List Float) (ns′ : List ℕ) : Type 0 where
+  pub number : refusal ≡ cond (noRoom values out ns) 14 0
+  pub written : out′ ≡ cond (noRoom values out ns) out (paste out 0 (allNumbers values) (28 * length values))
+  pub counted : ns′ ≡ cond (noRoom values out ns) ns (paste ns 0 (map (λ d. d .n) values) (length values))
+
+-- a vector with partials
 unfoldable pub AnsweredV : Vector Dv → List Float → List ℕ → ℕ → List Float → List ℕ → Type 0
-AnsweredV a out ns =
-    AnsweredTwo 56 2 (paste (paste out 0 (a .x .v ∷ a .x .g) 28) 28 (a .y .v ∷ a .y .g) 28) (set (set ns 0 (a .x .n)) 1 (a .y .n)) out ns
+AnsweredV a = AnsweredAll (a .x ∷ a .y ∷ [])
 
 -- the orders of a span's basis, five rows of four values with partials: value i is in row i / 4 at column i % 4
 abbrev pub valueOf : List (List Dv) → ℕ → Dv
 valueOf rows i = at2 dual rows (i / 4) (i % 4)
 
--- its numbers go to the 28 places from 28 * i on, its count to place i
-unfoldable pub putValues : List (List Dv) → List Float → List Float
-putValues rows out = run 0 20 (λ i o. paste o (28 * i) (valueOf rows i .v ∷ valueOf rows i .g) 28) out
-
-unfoldable pub putCounts : List (List Dv) → List ℕ → List ℕ
-putCounts rows ns = run 0 20 (λ i l. set l i (valueOf rows i .n)) ns
-
 unfoldable pub AnsweredB : List (List Dv) → List Float → List ℕ → ℕ → List Float → List ℕ → Type 0
-unfolding putValues putCounts
-AnsweredB rows out ns = AnsweredTwo 560 20 (putValues rows out) (putCounts rows ns) out ns
+AnsweredB rows = AnsweredAll (listed 0 20 (valueOf rows))
 
 -- a vector of doubles
 pub record AnsweredP (a : Vector Float) (out : List Float) (refusal : ℕ) (out′ : List Float) : Type 0 where

@@ -4,11 +4,13 @@ ghost use mathlib.Core.List.{_∷_};
 ghost use Prim.Native.Nat.{_+_, _≤_};
 ghost use lib.ListN.{length, getD};
 ghost use lib.Seq.{paste};
-ghost use Rattle.plane.specs.View.{view, viewD};
-ghost use Rattle.c_values.specs.Crossing.{entryOf, readDv, readV, readSix, putValues, putCounts, AnsweredD, AnsweredV, AnsweredP, AnsweredB};
+ghost use Rattle.plane.specs.View.{view};
+ghost use Rattle.plane_partials.specs.View.{viewD};
+ghost use Rattle.meaning.specs.Search.{listed};
+ghost use Rattle.c_values.specs.Crossing.{entryOf, readDv, readV, readSix, valueOf, allNumbers, AnsweredD, AnsweredV, AnsweredP, AnsweredB};
 use partials::Dv;
 use plane::P2;
-use plane::P2d;
+use plane_partials::P2d;
 
 // The number at i, +0.0 where there is none.
 fn entry(s: &[f64], i: usize) -> f64
@@ -79,6 +81,7 @@ pub fn read_six(s: &[f64], ns: &[u64]) -> [Dv; 6]
 fn write(d: Dv, out: &mut [f64], at: usize)
     requires { ⌜ at + 28 ≤ length (now out) ⌝ }
     ensures { λ _. ⌜ now (out .exit) ≡ paste (now (out .entry)) at (d .v ∷ d .g) 28 ⌝ }
+    ensures { λ _. ⌜ length (d .g) ≡ 27 ⌝ }
 {
     let g = d.g;
     out[at] = d.v;
@@ -129,7 +132,8 @@ pub fn answer_pair(a: P2, out: &mut [f64]) -> u64
 // Puts the values of five rows into out, one behind the other, and their counts into counts.
 fn write_rows(rows: [[Dv; 4]; 5], out: &mut [f64], counts: &mut [u64])
     requires { ⌜ 560 ≤ length (now out) ⌝ ∗ ⌜ 20 ≤ length (now counts) ⌝ }
-    ensures { λ _. ⌜ now (out .exit) ≡ putValues rows (now (out .entry)) ⌝ ∗ ⌜ now (counts .exit) ≡ putCounts rows (now (counts .entry)) ⌝ }
+    ensures { λ _. ⌜ now (out .exit) ≡ paste (now (out .entry)) 0 (allNumbers (listed 0 20 (valueOf rows))) 560 ⌝ }
+    ensures { λ _. ⌜ now (counts .exit) ≡ paste (now (counts .entry)) 0 (listed 0 20 (λ i. valueOf rows i .n)) 20 ⌝ }
 {
     for i in 0..20 {
         let d = rows[i / 4][i % 4];

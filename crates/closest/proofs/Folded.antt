@@ -1,6 +1,6 @@
 -- Samples one after the other, as the loop takes them from the walk's room. Assumes nothing.
 use mathlib.Core.Path.{_≡_, refl, ap, _∙_}
-use mathlib.Core.List.{List, [], _∷_, _++_}
+use mathlib.Core.List.{List, [], _++_}
 use Prim.Native.Nat.{ℕ, zero, suc, _+_, _-_, _≤_}
 use native.Mathlib.Nat.{add-zero, sub-zero, le-refl}
 use native.Mathlib.Omega.{arith}
@@ -17,7 +17,7 @@ use Rattle.shape.specs.Shape.{Shape}
 use Rattle.samples.specs.Samples.{samplesOf}
 use Rattle.samples.specs.Walk.{walked, walkOf}
 use Rattle.samples.proofs.Sampled.{walk-count, walk-room}
-use Rattle.closest.specs.Search.{through, sampled, unsampled, nearestSample}
+use Rattle.closest.specs.Sampling.{through, sampled, unsampled, bestSample}
 use Rattle.closest.specs.declared.Best.{Best}
 
 -- the first turn of a loop, and the others
@@ -42,8 +42,8 @@ front l r =
 
 -- all of the samples
 pub nearest-walked : (c : Shape Float) (p : Vector Float) (few : c .n ≤ 66) (room₀ : List Float) {count : ℕ} {room : List Float} {r : Best}
-    → walked count room ≡ walkOf (c .n) (c .knots) 16 room₀ → r ≡ run 0 count (λ k x. sampled c p x (at1 plain room k)) (unsampled c p) → r ≡ nearestSample c p
-unfolding nearestSample samplesOf
+    → walked count room ≡ walkOf (c .n) (c .knots) 16 room₀ → r ≡ run 0 count (λ k x. sampled c p x (at1 plain room k)) (unsampled c p) → r ≡ bestSample c p
+unfolding bestSample samplesOf
 nearest-walked c p few room₀ {count} {room} w e =
     let l = samplesOf (record { n = c .n; xs = []; ys = []; knots = c .knots }) 16 in
     let k : count ≡ length l = walk-count (c .n) (c .knots) 16 few (le-refl 16) room₀ w in

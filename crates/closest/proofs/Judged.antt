@@ -2,17 +2,20 @@
 use mathlib.Core.Path.{_≡_, sym, ap, _∙_}
 use mathlib.Core.Bool.{Bool, true, false, not, _||_}
 use mathlib.Core.List.{[], _∷_}
+use borrow.Author.Tests.{not-false}
 use lib.Ieee.{Float, ne, isNan}
 use lib.Ieee.Scale.{finite}
 use Rattle.refusal.specs.declared.Refusal.{Refusal}
 use Rattle.refusal.specs.Refusals.{refusal, none}
 use Rattle.outcome.specs.Told.{Values, telling}
-use Rattle.outcome.proofs.Doors.{Tells, untold, tells, stop-told, pass-told, done-told}
+use Rattle.outcome.proofs.Doors.{untold, tells, stop-told, pass-told, done-told}
 use Rattle.number.proofs.Compared.{nan-is}
 use Rattle.plane.specs.Vector.{Vector}
 use Rattle.shape.specs.Shape.{Shape}
-use Rattle.closest.specs.Search.{nearestSample, newtonFrom, closestOf, searchRules}
+use Rattle.closest.specs.Search.{samplesFine, newtonFrom, closestOf, searchRules}
+use Rattle.closest.specs.Sampling.{bestSample}
 use Rattle.closest.specs.declared.Best.{Best}
+use Rattle.closest.proofs.Least.{fine-is, nearest-is}
 
 module _ (c : Shape Float) (p : Vector Float) where
   abbrev Answers : Values → Type 0
@@ -28,21 +31,26 @@ module _ (c : Shape Float) (p : Vector Float) where
       wild-y h e = tells (stop-told 10 e (rw (← x, tx, ← y, h)))
 
       -- the samples
-      module _ (ty : not b ≡ false) {best : Best} (s : best ≡ nearestSample c p) where
+      module _ (ty : not b ≡ false) {best : Best} (s : best ≡ bestSample c p) where
         tame : not (finite (p .x)) || not (finite (p .y)) ≡ false
         tame = rw (← x, tx, ← y, ty)
 
+        all-fine : best .fine ≡ samplesFine c p
+        all-fine = ap (λ (z : Best). z .fine) s ∙ fine-is c p
+
         pub wild-sample : not (best .fine) ≡ true → {r : Refusal} → r ≡ refusal 15 → Answers (untold r)
-        wild-sample h e = tells (pass-told 11 tame (stop-told 14 e (rw (← s, h))))
+        wild-sample h e = tells (pass-told 11 tame (stop-told 14 e (rw (← all-fine, h))))
 
         -- the last parameter
         module _ (f : not (best .fine) ≡ false) {t : Float} (e : t ≡ newtonFrom c p (best .t)) where
           last-is : t ≡ closestOf c p
           unfolding closestOf
-          last-is = e ∙ ap (λ (z : Best). newtonFrom c p (z .t)) s
+          last-is =
+              let fine : bestSample c p .fine ≡ true = ap (λ (z : Best). z .fine) (sym s) ∙ not-false (best .fine) f in
+              e ∙ ap (newtonFrom c p) (ap (λ (z : Best). z .t) s ∙ nearest-is c p fine)
 
-          judged : {z : Bool} → ne t t ≡ z → not (nearestSample c p .fine) || isNan (closestOf c p) ≡ z
-          judged h = rw (← s, f, ← last-is) (sym (nan-is t) ∙ h)
+          judged : {z : Bool} → ne t t ≡ z → not (samplesFine c p) || isNan (closestOf c p) ≡ z
+          judged h = rw (← all-fine, f, ← last-is) (sym (nan-is t) ∙ h)
 
           pub lost : ne t t ≡ true → {r : Refusal} → r ≡ refusal 15 → Answers (untold r)
           lost h q = tells (pass-told 11 tame (stop-told 14 q (judged h)))

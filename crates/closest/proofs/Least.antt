@@ -1,31 +1,34 @@
--- Where every distance is finite, the nearest sample is the first of those with the least distance. Assumes nothing.
-use mathlib.Core.Path.{_≡_, refl, sym, ap, _∙_}
-use mathlib.Core.Bool.{true, false, true≢false}
+-- Where every distance is finite, the loop over the samples finds the first of the nearest: the first of the least distances, though it compares squares
+-- before. Assumes nothing.
+use mathlib.Core.Path.{_≡_, refl, sym, ap, _∙_, subst}
+use mathlib.Core.Bool.{true, false, not, _&&_, true≢false}
 use mathlib.Core.List.{List, [], _∷_, _++_}
 use mathlib.Core.Logic.{_⊎_, inl, inr}
-use Prim.Native.Nat.{ℕ, zero, suc, _+_, _<_}
+use Prim.Native.Nat.{ℕ, zero, suc, _+_, _<_, zero-le}
 use native.Mathlib.Omega.{arith}
+use borrow.Author.Tests.{ltb-true, ltb-false}
+use lib.Dec.{ltb}
 use lib.ListN.{length, length-append}
 use lib.Ieee.{Float, nan, inf, fin, lt, le, isNan}
 use lib.Ieee.Scale.{finite}
 use Rattle.meaning.specs.Scalar.{plain}
 use Rattle.meaning.specs.Table.{at1}
 use Rattle.meaning.specs.Loops.{run}
-use Rattle.meaning.proofs.Order.{le-refl, lt-le, lt-trans, lt-le-trans, lt-not-le, not-lt-le}
-use Rattle.meaning.proofs.Tests.{by-two, and-left, and-right, no}
+use Rattle.meaning.proofs.Order.{finite-no-nan, le-refl, lt-le, lt-trans, lt-le-trans, lt-not-le, not-lt-le}
+use Rattle.meaning.proofs.Tests.{by-two, refuted, and-left, and-right, no}
+use Rattle.meaning.proofs.Every.{all, each}
+use Rattle.meaning.proofs.Searching.{seek-is}
 use Rattle.plane.specs.Vector.{Vector}
 use Rattle.shape.specs.Shape.{Shape}
+use Rattle.point.specs.Point.{pointOrders}
 use Rattle.samples.specs.Samples.{pairSamples, samplesOf}
-use Rattle.closest.specs.Search.{through, to, distanceAt, sampled, unsampled, nearestSample}
+use Rattle.distance.proofs.Squares.{Squared, of-points, of-infinity, not-nearer, finite-square}
+use Rattle.closest.specs.Nearest.{away, isNearest, firstNearest}
+use Rattle.closest.specs.Search.{orderIn, to, samplesIn, distanceAt, samplesFine, nearestSample}
+use Rattle.closest.specs.Sampling.{through, squareAt, sampled, unsampled, bestSample}
 use Rattle.closest.specs.declared.Best.{Best}
 
--- a finite number is a number, and below infinity
-tame : (x : Float) → finite x ≡ true → isNan x ≡ false
-unfolding isNan
-tame nan h = no h
-tame (inf s) h = refl
-tame (fin s m e) h = refl
-
+-- a finite number is below infinity
 below-infinity : (x : Float) → finite x ≡ true → lt x (inf false) ≡ true
 unfolding lt
 below-infinity nan h = no h
@@ -38,27 +41,86 @@ module _ (dist : Float → Float) where
   NoneNearer d l = (j : ℕ) → j < length l → le d (dist (at1 plain l j)) ≡ true
 
   -- t is the first number of l that is the nearest
-  pub record FirstLeast (l : List Float) (t : Float) : Type 0 where
+  record FirstLeast (l : List Float) (t : Float) : Type 0 where
     pub i : ℕ
     pub inside : i < length l
     pub is : t ≡ at1 plain l i
     pub least : (j : ℕ) → j < length l → le (dist t) (dist (at1 plain l j)) ≡ true
     pub first : (j : ℕ) → j < i → lt (dist t) (dist (at1 plain l j)) ≡ true
 
+  -- number k of l is the nearest, and each before it is farther away
+  pub record IsFirst (l : List Float) (k : ℕ) : Type 0 where
+    pub inside : k < length l
+    pub least : (j : ℕ) → j < length l → le (away dist l k) (away dist l j) ≡ true
+    pub first : (j : ℕ) → j < k → lt (away dist l k) (away dist l j) ≡ true
+
+  -- there is one such k
+  pub only-one : {l : List Float} {j k : ℕ} → IsFirst l j → IsFirst l k → j ≡ k
+  only-one {l} {j} {k} a b =
+      by-two (ltb j k) (λ h. absurd (crossed a b (ltb-true j k h))) (λ h.
+      by-two (ltb k j) (λ g. absurd (crossed b a (ltb-true k j g))) (λ g. omega (arith, ltb-false j k h, ltb-false k j g)))
+    where
+      crossed : {j k : ℕ} → IsFirst l j → IsFirst l k → j < k → ⊥
+      crossed {j} {k} a b h = true≢false (sym (a .least k (b .inside)) ∙ lt-not-le _ _ (b .first j h))
+
+  by-index : {l : List Float} {t : Float} (f : FirstLeast l t) → IsFirst l (f .i)
+  by-index f = record { inside = f .inside; least = rw (f .is) at (f .least); first = rw (f .is) at (f .first) }
+
+  -- it is the definition's
+  first-is : {l : List Float} {k : ℕ} → IsFirst l k → k ≡ firstNearest dist l
+  unfolding firstNearest
+  first-is {l} {k} f =
+      seek-is (isNearest dist l) 0 (length l) k
+      (record {
+        low = zero-le;
+        high = omega (arith, f .inside);
+        before = λ j g h. refuted (isNearest dist l j) (λ e. true≢false (sym (each (length l) _ e k (f .inside)) ∙ lt-not-le _ _ (f .first j h)));
+        found = λ h. all (length l) _ (f .least);
+      })
+
 module _ (c : Shape Float) (p : Vector Float) where
   abbrev all-of : List Float → Best → Best
   all-of l b = through (sampled c p) l b
 
+  -- ---- a sample's square
+
+  squared : (t : Float) → Squared (distanceAt c p t) (squareAt c p t)
+  unfolding distanceAt squareAt
+  squared t = of-points (orderIn (pointOrders c t 0) 0) p
+
+  finite-is : (t : Float) → finite (distanceAt c p t) ≡ lt (squareAt c p t) (inf false)
+  unfolding distanceAt squareAt
+  finite-is t = finite-square (orderIn (pointOrders c t 0) 0) p
+
+  -- it is compared first, which leaves the choice to the distances
+  nearer-is : (b : Best) (t : Float) → Squared (b .d) (b .square)
+      → (not (le (b .square) (squareAt c p t)) && lt (distanceAt c p t) (b .d)) ≡ lt (distanceAt c p t) (b .d)
+  nearer-is b t k = by-two (le (b .square) (squareAt c p t)) (λ h. rw h (sym (not-nearer (squared t) k h))) (λ h. rw h)
+
+  -- ---- finite distances
+
   fine-before : (l : List Float) (b : Best) → all-of l b .fine ≡ true → b .fine ≡ true
   unfolding through sampled
   fine-before [] b h = h
-  fine-before (t ∷ ts) b h = and-left (b .fine) (finite (distanceAt c p t)) (fine-before ts (sampled c p b t) h)
+  fine-before (t ∷ ts) b h = and-left (b .fine) (lt (squareAt c p t) (inf false)) (fine-before ts (sampled c p b t) h)
 
   finite-first : (t : Float) (ts : List Float) (b : Best) → all-of (t ∷ ts) b .fine ≡ true → finite (distanceAt c p t) ≡ true
   unfolding through sampled
-  finite-first t ts b h = and-right (b .fine) (finite (distanceAt c p t)) (fine-before ts (sampled c p b t) h)
+  finite-first t ts b h = finite-is t ∙ and-right (b .fine) (lt (squareAt c p t) (inf false)) (fine-before ts (sampled c p b t) h)
 
-  -- what the samples l make of b: it stays, or one of them takes its place
+  -- every distance is finite, and the other way round
+  all-finite : (l : List Float) (b : Best) → all-of l b .fine ≡ true → (j : ℕ) → j < length l → finite (distanceAt c p (at1 plain l j)) ≡ true
+  unfolding through
+  all-finite [] b h j k = absurd (omega arith)
+  all-finite (t ∷ ts) b h zero k = finite-first t ts b h
+  all-finite (t ∷ ts) b h (suc j) k = all-finite ts (sampled c p b t) h j (omega arith)
+
+  finite-all : (l : List Float) (b : Best) → b .fine ≡ true → ((j : ℕ) → j < length l → finite (distanceAt c p (at1 plain l j)) ≡ true) → all-of l b .fine ≡ true
+  unfolding through sampled
+  finite-all [] b h g = h
+  finite-all (t ∷ ts) b h g = finite-all ts (sampled c p b t) (rw (h, ← finite-is t, g 0 (omega arith))) (λ j k. g (suc j) (omega arith))
+
+  -- ---- what the samples l make of b: it stays, or one of them takes its place
   record Stays (l : List Float) (b r : Best) : Type 0 where
     same-t : r .t ≡ b .t
     same-d : r .d ≡ b .d
@@ -101,7 +163,7 @@ module _ (c : Shape Float) (p : Vector Float) where
             i = 0;
             inside = omega arith;
             is = refl;
-            least = none-more d t ts (le-refl d (tame d good)) h;
+            least = none-more d t ts (le-refl d (finite-no-nan d good)) h;
             first = λ j k. absurd (omega arith);
           })
 
@@ -117,7 +179,7 @@ module _ (c : Shape Float) (p : Vector Float) where
     -- it is not
     module _ (far : lt d (b .d) ≡ false) (number : isNan (b .d) ≡ false) (at-t : b₁ .t ≡ b .t) (at-d : b₁ .d ≡ b .d) where
       farther : le (b .d) d ≡ true
-      farther = not-lt-le d (b .d) (tame d good) number far
+      farther = not-lt-le d (b .d) (finite-no-nan d good) number far
 
       as-before : Stays ts b₁ r ⊎ Taken ts b₁ r → Stays (t ∷ ts) b r ⊎ Taken (t ∷ ts) b r
       as-before (inl s) = inl (record { same-t = s .same-t ∙ at-t; same-d = s .same-d ∙ at-d; none = none-more (b .d) t ts farther (rw at-d at (s .none)) })
@@ -125,14 +187,20 @@ module _ (c : Shape Float) (p : Vector Float) where
           let q : lt (r .d) (b .d) ≡ true = rw at-d at (k .less) in
           inr (record { own = k .own; less = q; one = first-more t ts (rw (k .own) at (lt-le-trans (r .d) (b .d) d q farther)) (k .one) })
 
-  goes : (l : List Float) (b : Best) → isNan (b .d) ≡ false → all-of l b .fine ≡ true → Stays l b (all-of l b) ⊎ Taken l b (all-of l b)
+  goes : (l : List Float) (b : Best) → Squared (b .d) (b .square) → isNan (b .d) ≡ false → all-of l b .fine ≡ true → Stays l b (all-of l b) ⊎ Taken l b (all-of l b)
   unfolding through sampled
-  goes [] b n h = inl (record { same-t = refl; same-d = refl; none = λ j k. absurd (omega arith) })
-  goes (t ∷ ts) b n h =
+  goes [] b q n h = inl (record { same-t = refl; same-d = refl; none = λ j k. absurd (omega arith) })
+  goes (t ∷ ts) b q n h =
       let good = finite-first t ts b h in
+      let r = nearer-is b t q in
       by-two (lt (distanceAt c p t) (b .d))
-      (λ e. inr (now-taken t ts b (sampled c p b t) (all-of ts (sampled c p b t)) good e (rw e) (rw e) (goes ts (sampled c p b t) (rw e (tame (distanceAt c p t) good)) h)))
-      (λ e. as-before t ts b (sampled c p b t) (all-of ts (sampled c p b t)) good e n (rw e) (rw e) (goes ts (sampled c p b t) (rw e n) h))
+      (λ e.
+      inr
+      (now-taken t ts b (sampled c p b t) (all-of ts (sampled c p b t)) good e (rw (r, e)) (rw (r, e))
+      (goes ts (sampled c p b t) (rw (r, e) (squared t)) (rw (r, e) (finite-no-nan (distanceAt c p t) good)) h)))
+      (λ e.
+      as-before t ts b (sampled c p b t) (all-of ts (sampled c p b t)) good e n (rw (r, e)) (rw (r, e))
+      (goes ts (sampled c p b t) (rw (r, e) q) (rw (r, e) n) h))
 
   -- the first sample is nearer than infinity
   none-stays : (l : List Float) → 0 < length l → all-of l (unsampled c p) .fine ≡ true → Stays l (unsampled c p) (all-of l (unsampled c p)) → ⊥
@@ -141,12 +209,31 @@ module _ (c : Shape Float) (p : Vector Float) where
 
   least-of : (l : List Float) → 0 < length l → all-of l (unsampled c p) .fine ≡ true → FirstLeast (distanceAt c p) l (all-of l (unsampled c p) .t)
   unfolding isNan
-  least-of l k h = elim (goes l (unsampled c p) refl h) [ inl s ↦ absurd (none-stays l k h s) | inr q ↦ q .one ]
+  least-of l k h = elim (goes l (unsampled c p) of-infinity refl h) [ inl s ↦ absurd (none-stays l k h s) | inr q ↦ q .one ]
 
-  some-sample : 0 < length (samplesOf c 16)
+  some-sample : 0 < length (samplesIn c)
   unfolding samplesOf
   some-sample = omega (arith, length-append (run 0 (c .n + 3) (λ i l. l ++ pairSamples (c .knots) 16 i) []) (to c ∷ []))
 
-  pub first-least : nearestSample c p .fine ≡ true → FirstLeast (distanceAt c p) (samplesOf c 16) (nearestSample c p .t)
-  unfolding nearestSample
-  first-least h = least-of (samplesOf c 16) some-sample h
+  -- ---- what the loop leaves, by the definition
+
+  pub fine-is : bestSample c p .fine ≡ samplesFine c p
+  unfolding bestSample samplesFine
+  fine-is =
+      let l = samplesIn c in
+      by-two (all-of l (unsampled c p) .fine)
+      (λ h. h ∙ sym (all (length l) _ (all-finite l (unsampled c p) h)))
+      (λ h. h ∙ sym (refuted (samplesFine c p) (λ e. true≢false (sym (finite-all l (unsampled c p) refl (each (length l) _ e)) ∙ h))))
+
+  pub nearest-is : bestSample c p .fine ≡ true → bestSample c p .t ≡ nearestSample c p
+  unfolding bestSample nearestSample
+  nearest-is h =
+      let f = least-of (samplesIn c) some-sample h in
+      f .is ∙ ap (at1 plain (samplesIn c)) (first-is (distanceAt c p) (by-index (distanceAt c p) f))
+
+  -- and the definition's index is the first of the nearest
+  pub first-nearest : samplesFine c p ≡ true → IsFirst (distanceAt c p) (samplesIn c) (firstNearest (distanceAt c p) (samplesIn c))
+  unfolding bestSample
+  first-nearest h =
+      let f = by-index (distanceAt c p) (least-of (samplesIn c) some-sample (fine-is ∙ h)) in
+      subst (IsFirst (distanceAt c p) (samplesIn c)) (first-is (distanceAt c p) f) f

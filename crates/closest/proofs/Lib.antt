@@ -4,4 +4,5 @@ pub mod Falls
 pub mod Folded
 pub mod Judged
 pub mod Least
+pub mod Started
 pub mod Nans

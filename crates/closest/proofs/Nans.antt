@@ -23,7 +23,7 @@ use Rattle.shape.specs.Shape.{Shape}
 use Rattle.evaluate.specs.Point.{weighted, placed, insideOf, orderAt, ordersOf}
 use Rattle.point.specs.Point.{pointOrders}
 use Rattle.refusal.proofs.Rows.{row-applies, row-passes}
-use Rattle.closest.specs.Search.{orderIn, still, from, to, slopeAt, roundOf, unfinished, nearestSample, newtonFrom, closestOf, searchRules}
+use Rattle.closest.specs.Search.{orderIn, still, from, to, slopeAt, roundOf, unfinished, samplesFine, nearestSample, newtonFrom, closestOf, searchRules}
 use Rattle.closest.specs.declared.Progress.{Progress}
 
 -- ---- the point
@@ -112,7 +112,7 @@ module _ (c : Shape Float) (p : Vector Float) where
       by false more = e
 
   abbrev start : Progress
-  start = record { t = nearestSample c p .t; left = 30 }
+  start = record { t = nearestSample c p; left = 30 }
 
   -- a NaN after k rounds
   module _ (k : ℕ) (few : k ≤ 30) (met : rounds k start .t ≡ nan) where
@@ -126,7 +126,7 @@ module _ (c : Shape Float) (p : Vector Float) where
     pub nan-ends-in-15 : finite (p .x) ≡ true → finite (p .y) ≡ true → firstOf (searchRules c p) ≡ refusal 15
     nan-ends-in-15 x y =
         row-passes (row 11 (not (finite (p .x)) || not (finite (p .y)))) _ (rw (x, y))
-        ∙ row-applies (row 15 (not (nearestSample c p .fine) || isNan (closestOf c p))) [] (rw last-nan (or-true (not (nearestSample c p .fine))))
+        ∙ row-applies (row 15 (not (samplesFine c p) || isNan (closestOf c p))) [] (rw last-nan (or-true (not (samplesFine c p))))
       where
         or-true : (b : Bool) → b || true ≡ true
         or-true true = refl

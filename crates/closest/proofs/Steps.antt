@@ -4,8 +4,7 @@ use mathlib.Core.Bool.{Bool, true, false, _&&_}
 use mathlib.Core.List.{List}
 use Prim.Native.Nat.{ℕ, _+_, _-_}
 use lib.ListN.{take}
-use lib.Ieee.{Float, lt, le}
-use lib.Ieee.Scale.{finite}
+use lib.Ieee.{Float, inf, lt, le}
 use Rattle.meaning.specs.Scalar.{plain, zero64}
 use Rattle.meaning.specs.Table.{at1}
 use Rattle.meaning.specs.Number.{sizeOf, clampOf}
@@ -17,8 +16,9 @@ use Rattle.shape.specs.Shape.{Shape}
 use Rattle.evaluate.specs.Point.{ordersOf}
 use Rattle.evaluate.proofs.Places.{same-span}
 use Rattle.point.specs.Point.{pointOrders}
-use Rattle.distance.specs.Distance.{distanceOf}
-use Rattle.closest.specs.Search.{orderIn, still, from, to, distanceAt, sampled, slopeAt, roundOf}
+use Rattle.distance.specs.Distance.{squareOf, distanceOf}
+use Rattle.closest.specs.Search.{orderIn, still, from, to, distanceAt, slopeAt, roundOf}
+use Rattle.closest.specs.Sampling.{squareAt, sampled}
 use Rattle.closest.specs.declared.Best.{Best}
 use Rattle.closest.specs.declared.Slope.{Slope}
 use Rattle.closest.specs.declared.Progress.{Progress}
@@ -29,9 +29,17 @@ module _ (c : Shape Float) (good : Accepted (take (c .n + 4) (c .knots)) (c .n))
   orders-are t nd = same-span plain c t nd (λ x. accepted-span (c .knots) (c .n) x good)
 
   module _ (p : Vector Float) (t : Float) where
-    pub distance-is : {at : List Float} {d : Float} → at ≡ ordersOf plain (halvedOf (c .knots) (c .n)) c t 0 → d ≡ distanceOf (orderIn at 0) p → d ≡ distanceAt c p t
-    unfolding distanceAt
-    distance-is e q = q ∙ ap (λ (l : List Float). distanceOf (orderIn l 0) p) (e ∙ orders-are t 0)
+    module _ {at : List Float} (e : at ≡ ordersOf plain (halvedOf (c .knots) (c .n)) c t 0) where
+      point-is : orderIn at 0 ≡ orderIn (pointOrders c t 0) 0
+      point-is = ap (λ (l : List Float). orderIn l 0) (e ∙ orders-are t 0)
+
+      pub square-is : {s : Float} → s ≡ squareOf (orderIn at 0) p → s ≡ squareAt c p t
+      unfolding squareAt
+      square-is q = q ∙ ap (λ (v : Vector Float). squareOf v p) point-is
+
+      pub distance-is : {d : Float} → d ≡ distanceOf (orderIn at 0) p → d ≡ distanceAt c p t
+      unfolding distanceAt
+      distance-is q = q ∙ ap (λ (v : Vector Float). distanceOf v p) point-is
 
     pub slope-is : {at : List Float} {w : Vector Float} {f s : Float} → at ≡ ordersOf plain (halvedOf (c .knots) (c .n)) c t 2 → w ≡ subV plain (orderIn at 0) p
         → f ≡ dotV plain w (orderIn at 1) → s ≡ dotV plain (orderIn at 1) (orderIn at 1)
@@ -40,15 +48,23 @@ module _ (c : Shape Float) (good : Accepted (take (c .n + 4) (c .knots)) (c .n))
     slope-is e q g h = rw (← orders-are t 2, ← e, g, h, q)
 
 module _ (c : Shape Float) (p : Vector Float) where
-  -- a sample that is nearer, and one that is not
-  module _ (b : Best) (t : Float) {d : Float} (e : d ≡ distanceAt c p t) {fine : Bool} (q : fine ≡ (b .fine && finite d)) where
-    pub taken : lt d (b .d) ≡ true → _≡_ {A = Best} (record { t = t; d = d; fine = fine }) (sampled c p b t)
-    unfolding sampled
-    taken h = rw (← e, h, q)
+  -- a sample whose square is not less; of the others one that is nearer, and one that is not
+  module _ (b : Best) (t : Float) {s : Float} (e : s ≡ squareAt c p t) {fine : Bool} (q : fine ≡ (b .fine && lt s (inf false))) where
+    abbrev stays : Best
+    stays = record { t = b .t; square = b .square; d = b .d; fine = fine }
 
-    pub passed : lt d (b .d) ≡ false → _≡_ {A = Best} (record { t = b .t; d = b .d; fine = fine }) (sampled c p b t)
+    pub beyond : le (b .square) s ≡ true → stays ≡ sampled c p b t
     unfolding sampled
-    passed h = rw (← e, h, q)
+    beyond h = rw (← e, h, q)
+
+    module _ (h : le (b .square) s ≡ false) {d : Float} (r : d ≡ distanceAt c p t) where
+      pub taken : lt d (b .d) ≡ true → _≡_ {A = Best} (record { t = t; square = s; d = d; fine = fine }) (sampled c p b t)
+      unfolding sampled
+      taken k = rw (← e, ← r, h, k, q)
+
+      pub passed : lt d (b .d) ≡ false → stays ≡ sampled c p b t
+      unfolding sampled
+      passed k = rw (← e, ← r, h, k, q)
 
   -- the last round and another
   module _ (s : Progress) {g : Slope} (e : g ≡ slopeAt c p (s .t)) where

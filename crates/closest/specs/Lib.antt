@@ -1,2 +1,4 @@
--- The closest parameter: the search, and what is answered.
+-- The closest parameter: the nearest sample, the search, and what is answered.
+pub mod Nearest
 pub mod Search
+pub mod Sampling

@@ -1,15 +1,16 @@
 -- The search for the closest parameter. docs/RULES.md, "Closest parameter", decides; in a round the original's `closest_param` decides the order of the
--- operations. Three structs of the code have the states: `Best` is the nearest sample so far, its distance, and whether every distance so far is
--- finite; `Slope` is what a round divides; `Progress` is a parameter and how many rounds may follow.
-use mathlib.Core.Bool.{Bool, true, false, not, _&&_, _||_, cond}
+-- operations. Two structs of the code have its states: `Slope` is what a round divides; `Progress` is a parameter and how many rounds may follow.
+use mathlib.Core.Bool.{Bool, not, _||_, cond}
 use mathlib.Core.List.{List, [], _∷_, _++_}
 use Prim.Native.Nat.{ℕ, _+_, _-_, _*_}
+use lib.ListN.{length}
 use lib.Dec.{ltb}
-use lib.Ieee.{Float, binary64, inf, lt, le, isNan, ofBits}
+use lib.Ieee.{Float, binary64, lt, le, isNan, ofBits}
 use lib.Ieee.Scale.{finite}
 use Rattle.meaning.specs.Scalar.{plain, zero64}
 use Rattle.meaning.specs.Table.{at1}
 use Rattle.meaning.specs.Loops.{rest}
+use Rattle.meaning.specs.Search.{every}
 use Rattle.meaning.specs.Number.{sizeOf, clampOf}
 use Rattle.refusal.specs.Refusals.{Row, row}
 use Rattle.plane.specs.Vector.{Vector, subV, dotV}
@@ -19,14 +20,9 @@ use Rattle.outcome.specs.Told.{Values, telling}
 use Rattle.point.specs.Point.{pointOrders}
 use Rattle.samples.specs.Samples.{samplesOf}
 use Rattle.distance.specs.Distance.{distanceOf}
-use Rattle.closest.specs.declared.Best.{Best}
+use Rattle.closest.specs.Nearest.{firstNearest}
 use Rattle.closest.specs.declared.Slope.{Slope}
 use Rattle.closest.specs.declared.Progress.{Progress}
-
--- what f makes of a list's numbers, one after the other, from s on
-unfoldable pub through : {S : Type 0} → (S → Float → S) → List Float → S → S
-through f [] s = s
-through f (t ∷ ts) s = through f ts (f s t)
 
 -- order k of those that stand x, y in turn
 abbrev pub orderIn : List Float → ℕ → Vector Float
@@ -43,6 +39,10 @@ from c = at1 plain (c .knots) 0
 abbrev pub to : Shape Float → Float
 to c = at1 plain (c .knots) (c .n + 3)
 
+-- 16 samples for each knot pair that rises, and the domain's end
+abbrev pub samplesIn : Shape Float → List Float
+samplesIn c = samplesOf c 16
+
 -- a round is left
 abbrev pub unfinished : Progress → Bool
 unfinished s = ltb 0 (s .left)
@@ -54,20 +54,14 @@ module _ (c : Shape Float) (p : Vector Float) where
   unfoldable pub distanceAt : Float → Float
   distanceAt t = distanceOf (orderIn (pointOrders c t 0) 0) p
 
-  -- A sample takes the place of the nearest so far only where its distance is less, so that of equal ones the first stays.
-  unfoldable pub sampled : Best → Float → Best
-  sampled b t =
-      let d = distanceAt t in
-      let nearer = lt d (b .d) in
-      record { t = cond nearer t (b .t); d = cond nearer d (b .d); fine = b .fine && finite d }
+  -- every sample has a finite distance
+  unfoldable pub samplesFine : Bool
+  samplesFine = every (length (samplesIn c)) (λ k. finite (distanceAt (at1 plain (samplesIn c) k)))
 
-  -- before the first sample: every finite distance is less
-  abbrev pub unsampled : Best
-  unsampled = record { t = from c; d = inf false; fine = true }
-
-  -- 16 samples for each knot pair that rises, and the domain's end
-  unfoldable pub nearestSample : Best
-  nearestSample = through sampled (samplesOf c 16) unsampled
+  -- the first of the nearest
+  unfoldable pub nearestSample : Float
+  unfolding firstNearest
+  nearestSample = at1 plain (samplesIn c) (firstNearest distanceAt (samplesIn c))
 
   -- ---- Newton's rounds on (C - p)·C' = 0
 
@@ -99,12 +93,12 @@ module _ (c : Shape Float) (p : Vector Float) where
   -- ---- the parameter, and the refusals that follow those of the curve
 
   unfoldable pub closestOf : Float
-  closestOf = newtonFrom (nearestSample .t)
+  closestOf = newtonFrom nearestSample
 
   abbrev pub searchRules : List Row
   searchRules =
       row 11 (not (finite (p .x)) || not (finite (p .y)))
-      ∷ row 15 (not (nearestSample .fine) || isNan closestOf)
+      ∷ row 15 (not samplesFine || isNan closestOf)
       ∷ []
 
 unfoldable pub closestAnswer : Offered → Vector Float → Values

@@ -8,21 +8,24 @@ ghost use Rattle.outcome.specs.Told.{told};
 ghost use Rattle.shape.specs.Offered.{inSlices};
 ghost use Rattle.shape.specs.Trusting.{trusting};
 ghost use Rattle.curve.specs.Record.{byRecord};
-ghost use Rattle.closest.specs.Search.{sampled, nearestSample, slopeAt, roundOf, newtonFrom, closestAnswer};
+ghost use Rattle.closest.specs.Search.{slopeAt, roundOf, newtonFrom, closestAnswer};
+ghost use Rattle.closest.specs.Sampling.{sampled, bestSample};
 use curve::Curve;
 use outcome::Told;
 use plane::P2;
 
 // ---- the samples
 
-// The nearest sample so far and its distance, and whether every distance so far is finite.
+// The nearest sample so far, its distance and the square of that, and whether every distance so far is finite.
 struct Best {
     t: f64,
+    square: f64,
     d: f64,
     fine: bool,
 }
 
-// The nearest, with the sample at t. Only a smaller distance takes its place: of equal ones the first stays.
+// The nearest, with the sample at t. Only a smaller distance takes its place: of equal ones the first stays. A square that is not smaller has no smaller
+// root, so none is taken of it; a square below infinity has a finite root.
 fn sample<'a>(
     u: &'a [f64; 70],
     n: usize,
@@ -37,28 +40,37 @@ fn sample<'a>(
 {
     let at = evaluate::orders(u, n, xs, ys, t, 0);
     let c = P2 { x: at[0], y: at[1] };
-    let d = distance::distance(c, p);
-    let fine = number::both(b.fine, number::is_finite(d));
-    if d < b.d {
-        return Best { t, d, fine };
-    }
-    Best {
+    let square = distance::square(c, p);
+    let infinite = f64::from_bits(0x7ff0_0000_0000_0000);
+    let fine = number::both(b.fine, square < infinite);
+    let stays = Best {
         t: b.t,
+        square: b.square,
         d: b.d,
         fine,
+    };
+    if b.square <= square {
+        return stays;
     }
+    let d = distance::distance(c, p);
+    if d < b.d {
+        return Best { t, square, d, fine };
+    }
+    stays
 }
 
 // The nearest of all samples. It begins at infinity, so that the first finite distance is taken.
 fn sample_all<'a>(u: &'a [f64; 70], n: usize, xs: &'a [f64; 66], ys: &'a [f64; 66], p: P2) -> Best
     requires { ⌜ Accepted (take (n + 4) (now u)) n ⌝ }
-    ensures { λ r. ⌜ r ≡ nearestSample (record { n = n; xs = now (xs .entry); ys = now (ys .entry); knots = now (u .entry) }) (view p) ⌝ }
+    ensures { λ r. ⌜ r ≡ bestSample (record { n = n; xs = now (xs .entry); ys = now (ys .entry); knots = now (u .entry) }) (view p) ⌝ }
 {
     let mut room = [0.0; 1105];
     let count = samples::walk(n, u, 16, &mut room);
+    let infinite = f64::from_bits(0x7ff0_0000_0000_0000);
     let mut best = Best {
         t: u[0],
-        d: f64::from_bits(0x7ff0_0000_0000_0000),
+        square: infinite,
+        d: infinite,
         fine: true,
     };
     for k in 0..count {

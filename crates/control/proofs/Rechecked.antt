@@ -1,50 +1,31 @@
 -- A curve built from control points passes the rules of its own record: what the build lets through, every door that checks it again does, too.
 -- Assumes nothing.
-use mathlib.Core.Path.{_≡_, refl, sym, ap, _∙_, subst}
+use mathlib.Core.Path.{_≡_, refl, sym, ap, _∙_}
 use mathlib.Core.Bool.{Bool, true, false}
 use mathlib.Core.List.{List}
-use Prim.Native.Nat.{ℕ, zero, suc, _+_, _*_, _≤_, _<_}
-use native.Mathlib.Nat.{sub-zero, zero-add}
+use Prim.Native.Nat.{ℕ, _+_, _≤_}
 use native.Mathlib.Omega.{arith}
-use lib.ListN.{length, set, take, replicate, length-take, length-replicate}
-use lib.Ieee.{Float, nan}
-use lib.Ieee.Scale.{finite}
-use Rattle.meaning.specs.Scalar.{plain, zero64}
-use Rattle.meaning.specs.Loops.{turns}
-use Rattle.meaning.specs.Table.{at1}
+use lib.ListN.{take, length-take}
+use lib.Ieee.{Float}
 use Rattle.refusal.specs.Refusals.{firstOf}
 use Rattle.refusal.proofs.Rows.{Passed, number-of}
 use Rattle.knots.specs.declared.Form.the-variants.{Control}
 use Rattle.knots.specs.Rules.{knotRules}
 use Rattle.knots.proofs.Accepted.{accepted}
-use Rattle.meaning.proofs.Filling.{Filled, empty, filled}
 use Rattle.uniform.proofs.Uniforms.{uniform-passes}
 use Rattle.outcome.specs.Outcome.{someWild}
-use Rattle.outcome.proofs.Wild.{each-finite, none-wild}
+use Rattle.outcome.proofs.Wild.{none-wild}
 use Rattle.shape.specs.Shape.{pointsIn, everyOther}
 use Rattle.shape.specs.Rules.{countedKnots, handleRules}
 use Rattle.shape.proofs.Trusted.{counted-all, all-tame}
 use Rattle.shape.proofs.Handles.{handles-passed-knots, handles-tame, given-front}
+use Rattle.shape.proofs.Sound.{others-finite}
 use Rattle.curve.specs.Record.{byRecord}
 use Rattle.curve.specs.Build.{storedKnots, controlCurve}
 use Rattle.curve.proofs.Builds.{build-parts}
 use Rattle.curve.proofs.Assembled.{room-of}
 use Rattle.control.specs.Control.{controlFine}
 use Rattle.control.specs.Rules.{controlRules}
-
--- a list written from the front
-fills : (f : ℕ → Float) (d n : ℕ) (l : List Float) → length l ≡ d → n ≤ d → Filled f nan d n (turns 0 n (λ i s. set s i (f i)) l)
-unfolding turns
-fills f d zero l e h = empty e
-fills f d (suc n) l e h =
-    let i : n + 1 ≡ suc n = omega arith in
-    let more = filled (fills f d n l e (omega arith)) h refl in
-    rw (zero-add n) (subst (λ (k : ℕ). Filled f nan d k (set (turns 0 n (λ i s. set s i (f i)) l) n (f n))) i more)
-
-other-at : (coords : List Float) (n off i : ℕ) → n ≤ 66 → i < n → at1 plain (everyOther coords n off) i ≡ at1 plain coords (2 * i + off)
-unfolding everyOther
-other-at coords n off i r h =
-    rw (sub-zero n) (fills (λ i. at1 plain coords (2 * i + off)) 66 n (replicate 66 zero64) (length-replicate 66 zero64) r .same i h)
 
 -- ---- the curve
 
@@ -60,10 +41,7 @@ module _ (coords : List Float) (given : Bool) (ks : List Float) (short : Bool) (
 
   coordinates : (off : ℕ) → off ≤ 1 → someWild (everyOther coords n off) n ≡ false
   coordinates off o =
-      none-wild (everyOther coords n off) n
-      (λ i l.
-      ap finite (other-at coords n off i (room .1) l)
-      ∙ each-finite coords (length coords) (handles-tame Control coords given ks handles) (2 * i + off) (omega arith))
+      none-wild (everyOther coords n off) n (others-finite coords off (room .1) o (handles-tame Control coords given ks handles))
 
   knots-pass : Passed (knotRules Control n true (take (n + 4) (storedKnots n given ks)))
   knots-pass = by given (handles-passed-knots Control coords given ks handles)

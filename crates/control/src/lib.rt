@@ -8,7 +8,8 @@ use curve::Built;
 // caller has for the answer is short, which is 14.
 // Corresponds to spline.rs: BSpline::from_control_points.
 pub fn build_control(coords: &[f64], given: bool, knots: &[f64], short: bool) -> Built
-    ensures { λ r. ⌜ r ≡ building (controlRules (now (coords .entry)) given (now (knots .entry)) short) (controlCurve (now (coords .entry)) given (now (knots .entry))) ⌝ }
+    ensures { λ r. ⌜ r
+        ≡ building (controlRules (now (coords .entry)) given (now (knots .entry)) short) (controlCurve (now (coords .entry)) given (now (knots .entry))) ⌝ }
 {
     let b = curve::assemble(coords, given, knots);
     if b.refusal.number != 0 {

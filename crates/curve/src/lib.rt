@@ -73,7 +73,8 @@ fn stored(n: usize, given: bool, knots: &[f64]) -> [f64; 70]
 
 // The curve of control points x, y in turn, by the rules 1 to 11.
 pub fn assemble(coords: &[f64], given: bool, knots: &[f64]) -> Built
-    ensures { λ r. ⌜ r ≡ building (handleRules Control (now (coords .entry)) given (now (knots .entry))) (controlCurve (now (coords .entry)) given (now (knots .entry))) ⌝ }
+    ensures { λ r. ⌜ r ≡ building (handleRules Control (now (coords .entry)) given (now (knots .entry)))
+        (controlCurve (now (coords .entry)) given (now (knots .entry))) ⌝ }
 {
     let r = shape::check_handles(Form::Control, coords, given, knots);
     if r.number != 0 {

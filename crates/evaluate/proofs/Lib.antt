@@ -1,3 +1,5 @@
 -- Laws of the definitions.
 pub mod Rooms
 pub mod Places
+pub mod Pieces
+pub mod Slices

@@ -1,6 +1,7 @@
 -- Where a parameter lies, and what is answered there. Assumes nothing.
 use mathlib.Core.Path.{_≡_, refl, ap, _∙_}
 use mathlib.Core.Bool.{true, false}
+use mathlib.Core.List.{List}
 use Prim.Native.Nat.{ℕ, zero, suc, _+_, _≤_, _<_}
 use borrow.Author.Tests.{le-leb, lt-leb}
 use lib.ListN.{replicate}
@@ -10,18 +11,25 @@ use Rattle.meaning.specs.Table.{at1}
 use Rattle.plane.specs.Vector.{Vector, addV, scaleV}
 use Rattle.shape.specs.Shape.{Shape}
 use Rattle.evaluate.specs.Point.{placed, insideOf, beyondOf, orderAt, ordersOf}
-use Rattle.evaluate.specs.Straight.{straightOf}
+use Rattle.evaluate.specs.Straight.{straightOf, onFrom}
+use Rattle.evaluate.proofs.Rooms.{point-back, tangent-back}
 
--- past an end: the point and the tangent that the code hands on are the definition's
-pub straight-is : (sp : Float → ℕ) (c : Shape Float) (e t : Float) {p d : Vector Float} (m : ℕ)
-    → p ≡ addV plain (insideOf plain sp c e 1 0) (scaleV plain (insideOf plain sp c e 1 1) (plain .minus t e)) → d ≡ insideOf plain sp c e 1 1
-    → placed plain m (straightOf p d) ≡ placed plain m (beyondOf plain sp c e t)
+-- what the code computes on its way straight on, from the numbers in a room
+pub straight-on : (room : List Float) (e t : Float) (m : ℕ) {s p : Vector Float}
+    → s ≡ scaleV plain (record { x = at1 plain room 2; y = at1 plain room 3 }) (plain .minus t e)
+    → p ≡ addV plain (record { x = at1 plain room 0; y = at1 plain room 1 }) s
+    → placed plain m (straightOf p (record { x = at1 plain room 2; y = at1 plain room 3 })) ≡ placed plain m (onFrom room e t)
+straight-on room e t m u v = rw (v, u)
+
+-- past an end: straight on from the two orders there is what the definition says
+pub on-from-is : (sp : Float → ℕ) (c : Shape Float) (e t : Float) (m : ℕ) {room : List Float}
+    → room ≡ placed plain 2 (insideOf plain sp c e 1) → placed plain m (onFrom room e t) ≡ placed plain m (beyondOf plain sp c e t)
 unfolding straightOf beyondOf
-straight-is sp c e t {p} {d} m u v = ap (placed plain m) (λ i k. each k i)
+on-from-is sp c e t m {room} q = ap (placed plain m) (λ i k. each k i)
   where
-    each : (k : ℕ) → straightOf p d k ≡ beyondOf plain sp c e t k
-    each zero = u
-    each (suc zero) = v
+    each : (k : ℕ) → onFrom room e t k ≡ beyondOf plain sp c e t k
+    each zero = λ i. addV plain (point-back _ q i) (scaleV plain (tangent-back _ q i) (plain .minus t e))
+    each (suc zero) = tangent-back _ q
     each (suc (suc k)) = refl
 
 module _ {A : Type 0} (o : Ops A) (sp : Float → ℕ) (c : Shape A) (t : A) (nd : ℕ) where

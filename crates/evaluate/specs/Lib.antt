@@ -1,3 +1,4 @@
 -- A point of a curve, and its derivatives.
 pub mod Point
 pub mod Straight
+pub mod Piece

@@ -1,24 +1,24 @@
 -- A curve through points passes the rules of its own record: what the build lets through, every door that checks it again does, too.
 -- Assumes nothing.
 use mathlib.Core.Path.{_≡_, refl, sym, ap, _∙_}
-use mathlib.Core.Bool.{Bool, true, false, not}
+use mathlib.Core.Bool.{Bool, true, false}
 use mathlib.Core.List.{List}
 use mathlib.Core.Logic.{inl, inr}
 use Prim.Native.Nat.{ℕ, _+_, _≤_, _<_}
 use native.Mathlib.Omega.{arith}
-use borrow.Author.Tests.{not-true, not-false}
+use borrow.Author.Tests.{not-false}
 use lib.Ieee.{Float}
 use lib.Ieee.Scale.{finite}
 use Rattle.meaning.specs.Scalar.{plain}
 use Rattle.meaning.specs.Table.{at1}
-use Rattle.meaning.proofs.Tests.{no, and-left, and-right}
+use Rattle.meaning.proofs.Tests.{no}
 use Rattle.refusal.specs.Refusals.{firstOf}
 use Rattle.refusal.proofs.Rows.{Passed, number-of}
 use Rattle.knots.specs.declared.Form.the-variants.{Control, Fit}
 use Rattle.knots.specs.Rules.{knotRules}
 use Rattle.span.specs.Span.{spanOf}
-use Rattle.solve.specs.Substitution.{solvedOk}
-use Rattle.solve.proofs.Outcomes.{solution-fine, x-at, y-at}
+use Rattle.solve.specs.Stored.{solvedOk}
+use Rattle.solve.proofs.Outcomes.{x-at, y-at}
 use Rattle.solve_laws.proofs.Fine.{solved-fine}
 use Rattle.outcome.specs.Outcome.{someWild}
 use Rattle.outcome.proofs.Wild.{none-wild}
@@ -27,11 +27,10 @@ use Rattle.shape.proofs.Trusted.{counted-all, all-tame}
 use Rattle.curve.specs.Record.{byRecord}
 use Rattle.curve.proofs.Builds.{build-parts}
 use Rattle.fit.specs.Parameters.{fitParameter}
-use Rattle.fit.specs.System.{rowsOk}
-use Rattle.fit.specs.Fit.{controlsFor, knotsThrough, rowThrough, rowsThrough, solutionThrough, curveThrough, fitFine}
+use Rattle.fit.specs.Fit.{knotsThrough, rowsThrough, solutionThrough, curveThrough, fitFine}
 use Rattle.fit.specs.Fitting.{fitRules}
 use Rattle.fit.proofs.Asked.{fit-room}
-use Rattle.fit.proofs.Rows.{fit-rows-shaped}
+use Rattle.fit.proofs.Judged.{fine-tame, fine-solvable}
 use Rattle.fit.proofs.Rising.{Rising, fit-rise-or-repeat}
 use Rattle.fit.proofs.Passing.{fit-knots-length, fit-knots-pass}
 use Rattle.fit.proofs.Repeats.{repeat-refused}
@@ -43,14 +42,10 @@ module _ (q : List Float) (two : 2 ≤ pointsIn q) (room : pointsIn q ≤ 64) (f
   n = pointsIn q
 
   tame : someWild (knotsThrough q) 70 ≡ false
-  unfolding fitFine
-  tame = not-true _ (and-left (not (someWild (knotsThrough q) 70)) _ fine)
+  tame = fine-tame q fine
 
   solvable : solvedOk plain (n + 2) (rowsThrough q) ≡ true
-  unfolding fitFine solutionThrough
-  solvable =
-      sym (solution-fine plain (n + 2) (rowsThrough q))
-      ∙ and-right (rowsOk plain (controlsFor q) (rowThrough q)) _ (and-right (not (someWild (knotsThrough q) 70)) _ fine)
+  solvable = fine-solvable q fine
 
   -- no parameter is the next, since their rows would be refused
   pub rises : Rising (fitParameter plain q n) n
@@ -64,8 +59,7 @@ module _ (q : List Float) (two : 2 ≤ pointsIn q) (room : pointsIn q ≤ 64) (f
       → (finite (at1 plain (solutionThrough q .xs) r) ≡ true) × (finite (at1 plain (solutionThrough q .ys) r) ≡ true)
   unfolding solutionThrough
   answered r l =
-      let shape = fit-rows-shaped plain (spanOf (knotsThrough q) (n + 2)) (knotsThrough q) (fitParameter plain q n) q n in
-      let f = solved-fine plain (n + 2) (rowsThrough q) shape solvable r l in (
+      let f = solved-fine plain (n + 2) (rowsThrough q) solvable r l in (
         ap finite (x-at plain (n + 2) (rowsThrough q) solvable (omega arith) r l) ∙ f .0,
         ap finite (y-at plain (n + 2) (rowsThrough q) solvable (omega arith) r l) ∙ f .1,
       )

@@ -12,7 +12,7 @@ use Rattle.meaning.specs.Scalar.{plain, zero64, one64}
 use Rattle.meaning.specs.Loops.{turns}
 use Rattle.meaning.specs.Table.{at1, at2, put2}
 use Rattle.basis_columns.specs.Columns.{below}
-use Rattle.basis.specs.Triangle.{Column, Sides, zeros, columnTurn, columnOf, sidesTurn, noSides, triangleOf}
+use Rattle.basis.specs.Triangle.{Column, Sides, fourZeros, columnTurn, columnOf, sidesTurn, noSides, triangleOf}
 use Rattle.basis.specs.Derivatives.{Coefs, firstCoef, midTurn, midCoefs, lastCoef, cleared, orderOf}
 use Rattle.basis.specs.Basis.{Orders, Scaling, noOrders, valuesOf, orderTurn, functionOf, functionsOf, scaledRow, scaleTurn, scaled, derivativesOf, basisOf}
 use Rattle.fit.specs.System.{spread, rowAt}
@@ -55,9 +55,9 @@ put-doubles t i j v p h = record {
 zero-double : Double zero64
 zero-double = ofBits-fits binary64 0
 
-zeros-double : (n : ℕ) → Doubles (replicate n (zeros plain))
+zeros-double : (n : ℕ) → Doubles (replicate n (fourZeros plain))
 zeros-double n = record {
-  row = replicate-keeps InRow [] n (zeros plain) (record { read = replicate-keeps Double nan 4 zero64 zero-double (nan-fits binary64) })
+  row = replicate-keeps InRow [] n (fourZeros plain) (record { read = replicate-keeps Double nan 4 zero64 zero-double (nan-fits binary64) })
       (record { read = λ c. nan-fits binary64 });
 }
 
@@ -84,7 +84,7 @@ triangle-doubles : (u : List Float) (i : ℕ) (t : Float) → Doubles (triangleO
 unfolding triangleOf sidesTurn
 triangle-doubles u i t =
     turns-keep (λ (s : Sides Float). Doubles (s .ndu)) (sidesTurn plain u i t) (λ j s h. column-doubles _ _ j (s .ndu) h) 1 3 (noSides plain)
-    (put-doubles (replicate 4 (zeros plain)) 0 0 one64 (ofBits-fits binary64 0x3ff0_0000_0000_0000) (zeros-double 4))
+    (put-doubles (replicate 4 (fourZeros plain)) 0 0 one64 (ofBits-fits binary64 0x3ff0_0000_0000_0000) (zeros-double 4))
 
 -- ---- the derivatives: a sum of an order begins at 0.0 and is an answer from then on
 

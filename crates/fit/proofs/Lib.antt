@@ -4,6 +4,7 @@ pub mod Sums
 pub mod Plus
 pub mod Rising
 pub mod Rows
+pub mod Judged
 pub mod Through
 pub mod Asked
 pub mod Passing

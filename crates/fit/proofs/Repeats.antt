@@ -10,7 +10,7 @@ use lib.Ieee.{Float}
 use Rattle.meaning.specs.Scalar.{Ops, plain}
 use Rattle.meaning.specs.Table.{at1, at2}
 use Rattle.plane.specs.Vector.{Vector}
-use Rattle.solve.specs.Substitution.{solvedOk}
+use Rattle.solve.specs.Stored.{solvedOk}
 use Rattle.solve_laws.proofs.Twins.{twins-refused}
 use Rattle.fit.specs.Parameters.{pointAt}
 use Rattle.fit.specs.System.{withSides, rowAt, rowOf, fitRow, fitRows}

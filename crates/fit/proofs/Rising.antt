@@ -16,13 +16,12 @@ use lib.Ieee.Scale.{finite}
 use Rattle.meaning.specs.Scalar.{plain, zero64, one64}
 use Rattle.meaning.proofs.Order as Order
 use Rattle.meaning.specs.Search.{seek, some}
-use Rattle.knots.specs.Rules.{knot}
+use Rattle.knots.specs.Rules.{knot, NotFalling}
 use Rattle.span.specs.Span.{spanOf}
 use Rattle.span.specs.Halving.{halvedOf}
 use Rattle.meaning.proofs.Tests.{by-two, no}
 use Rattle.meaning.proofs.Searching.{some-found, none-found}
-use Rattle.knots.proofs.Sorted.{NotFalling}
-use Rattle.knots.proofs.Accepted.{number-no-nan}
+use Rattle.meaning.proofs.Order.{finite-no-nan}
 use Rattle.span.proofs.Spans.{halved-span}
 use Rattle.outcome.specs.Outcome.{someWild}
 use Rattle.outcome.proofs.Wild.{each-finite}
@@ -122,7 +121,7 @@ module _ (st : ℕ → Float) (P : (i : ℕ) → T (plus (st i))) where
           let g = fine-inner (suc k) (omega arith) b in
           rw (inner k a (omega arith), inner (suc k) (omega arith) b)
           (over-in-order (sum k) (sum (suc k)) total (sum-plus k) (sum-plus (suc k)) (sum-plus (n - 1)) f g
-          (sum-climbs k (number-no-nan _ (finite-over _ total g))))
+          (sum-climbs k (finite-no-nan _ (finite-over _ total g))))
 
       last-climbs : (k : ℕ) → 1 ≤ k → suc k ≡ n - 1 → le (u k) (u (suc k)) ≡ true
       last-climbs k a e =
@@ -132,7 +131,7 @@ module _ (st : ℕ → Float) (P : (i : ℕ) → T (plus (st i))) where
           (over-at-most-one (sum k) total (sum-plus k) (sum-plus (n - 1)) f (rw g at (sums-climb (n - 1 - k) k (rw g (over-no-nan _ _ f)))))
 
       pub parameters-climb : (k : ℕ) → suc k < n → le (u k) (u (suc k)) ≡ true
-      parameters-climb zero l = rw first (zero-least (u 1) (parameter-plus 1 l) (number-no-nan _ (fine 1 l)))
+      parameters-climb zero l = rw first (zero-least (u 1) (parameter-plus 1 l) (finite-no-nan _ (fine 1 l)))
       parameters-climb (suc k) l =
           by-two (ltb (suc (suc k)) (n - 1))
           (λ b. inner-climbs (suc k) (omega arith) (ltb-true _ _ b))
@@ -144,7 +143,7 @@ module _ (st : ℕ → Float) (P : (i : ℕ) → T (plus (st i))) where
           let f : k < n = omega arith in
           by-two (lt (u k) (u (suc k))) inl
           (λ b. inr (equal-same _ _ (parameter-fits k f) (parameter-fits (suc k) l) (parameter-plus k f) (parameter-plus (suc k) l)
-          (Order.le-le-eq _ _ (parameters-climb k l) (Order.not-lt-le _ _ (number-no-nan _ (fine k f)) (number-no-nan _ (fine (suc k) l)) b))))
+          (Order.le-le-eq _ _ (parameters-climb k l) (Order.not-lt-le _ _ (finite-no-nan _ (fine k f)) (finite-no-nan _ (fine (suc k) l)) b))))
 
       pub rise-or-repeat : Rising u n ⊎ Repeat u n
       rise-or-repeat =

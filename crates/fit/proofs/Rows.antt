@@ -1,8 +1,9 @@
--- The rows of the system: their lengths, their verdicts, and that they depend on the parameters that they read alone. Assumes nothing.
+-- The rows of the system: their lengths, the verdict on all of them, and that they depend on the parameters that they read alone. Assumes nothing.
 use mathlib.Core.Path.{_≡_, refl, sym, ap, _∙_, subst}
-use mathlib.Core.Bool.{Bool, _&&_, cond}
-use mathlib.Core.List.{List, []}
-use Prim.Native.Nat.{ℕ, zero, suc, _+_, _-_, _≤_, _<_}
+use mathlib.Core.Bool.{cond}
+use mathlib.Core.List.{List, [], flatten}
+use Prim.Native.Nat.{ℕ, _+_, _-_, _≤_, _<_}
+use native.Mathlib.Nat.{zero-add}
 use native.Mathlib.Omega.{arith}
 use lib.Dec.{leb, eqb}
 use borrow.Author.Tests.{leb-true}
@@ -10,29 +11,20 @@ use lib.ListN.{length, getD, set}
 use lib.Ieee.{Float}
 use Rattle.meaning.specs.Scalar.{Ops, plain, zero64, one64}
 use Rattle.meaning.specs.Table.{at1}
-use Rattle.meaning.specs.Search.{listed, every}
+use Rattle.meaning.specs.Search.{every}
 use Rattle.span.specs.Halving.{halvedOf}
 use Rattle.meaning.proofs.Filling.{length-listed, nth-listed}
+use Rattle.meaning.proofs.Every.{every-same}
 use Rattle.solve.specs.Rows.{flat, Shaped}
+use Rattle.solve.specs.Stored.{allFine}
+use Rattle.solve.proofs.Stored.{fine-flat}
 use Rattle.solve.proofs.Lists.{length-cond, blend, blend-start, blend-next, blend-all}
 use Rattle.solve.proofs.Flat.{shaped-set}
 use Rattle.plane.specs.Vector.{Vector}
-use Rattle.fit.specs.System.{origin, rowOk, rowOf, fitRow, fitRows}
+use Rattle.fit.specs.System.{origin, rowOf, fitRow, fitRows}
 use Rattle.fit.specs.Parameters.{pointAt}
 use Rattle.fit.specs.Stored.{foundFitRow, foundFitRows}
 use Rattle.fit.proofs.Sums.{listed-cong, choice-cong}
-
-all-cong : (n : ℕ) (p q : ℕ → Bool) → ((i : ℕ) → i < n → p i ≡ q i) → every n p ≡ every n q
-unfolding every
-all-cong zero p q h = refl
-all-cong (suc n) p q h = λ t. all-cong n p q (λ i l. h i (omega arith)) t && h n (omega arith) t
-
--- entry j of a list made from 0 on
-module _ {A : Type 0} (o : Ops A) where
-  -- the verdict of a row made index by index
-  pub row-verdict : (m : ℕ) (f : ℕ → A) → every (m + 2) (λ k. o .fine (f k)) ≡ rowOk o m (listed 0 (m + 2) f)
-  unfolding rowOk
-  row-verdict m f = all-cong (m + 2) _ _ (λ k l. ap (o .fine) (sym (nth-listed (m + 2) k f (o .off) l)))
 
 module _ {A : Type 0} (o : Ops A) (sp : Float → ℕ) (us : List A) where
   pub length-row : (m : ℕ) (t : A) (d : ℕ) (b : Vector A) → length (rowOf o sp us m t d b) ≡ m + 2
@@ -79,6 +71,12 @@ module _ (us ps q : List Float) (n : ℕ) where
   pub found-row-at : (r : ℕ) → r < n + 2 → getD (foundFitRows us ps q n) r [] ≡ foundFitRow us ps q n r
   unfolding foundFitRows foundFitRow
   found-row-at = fit-row-at plain (halvedOf us (n + 2)) us (at1 plain ps) q n
+
+  pub found-verdict : every (n + 2) (λ r. allFine plain (foundFitRow us ps q n r)) ≡ allFine plain (flatten (foundFitRows us ps q n))
+  unfolding foundFitRows foundFitRow fitRows
+  found-verdict =
+      let row = fitRow plain (halvedOf us (n + 2)) us (at1 plain ps) q n in
+      sym (fine-flat plain 0 (n + 2) row ∙ every-same (n + 2) _ _ (λ r l. ap (λ (k : ℕ). allFine plain (row k)) (zero-add r)))
 
   pub found-shaped : Shaped (n + 2) (n + 2 + 2) (foundFitRows us ps q n)
   unfolding foundFitRows

@@ -2,15 +2,15 @@
 -- search finds is the rules', so that the rows, the verdicts and the solution are the definition's. Assumes nothing.
 use mathlib.Core.Path.{_≡_, sym, ap, _∙_}
 use mathlib.Core.Bool.{Bool, true, false, not, _&&_}
-use mathlib.Core.List.{List, []}
+use mathlib.Core.List.{List, [], flatten}
 use Prim.Native.Nat.{ℕ, _+_, _-_, _*_, _≤_}
 use native.Mathlib.Omega.{arith}
-use borrow.Author.Tests.{not-true, not-false, eqb-true}
+use borrow.Author.Tests.{not-false, eqb-true}
 use lib.ListN.{length, drop}
 use lib.Ieee.{Float, nan}
 use Rattle.meaning.specs.Scalar.{plain}
 use Rattle.meaning.specs.Table.{at1}
-use Rattle.meaning.proofs.Tests.{by-two, and-left}
+use Rattle.meaning.proofs.Tests.{by-two}
 use Rattle.meaning.proofs.Filling.{Filled}
 use Rattle.refusal.specs.Refusals.{Row, firstOf, passes}
 use Rattle.refusal.proofs.Rows.{Passed, row-passed}
@@ -19,6 +19,7 @@ use Rattle.span.specs.Halving.{halvedOf}
 use Rattle.solve.specs.declared.Solved.{Solved}
 use Rattle.solve.specs.View.{view}
 use Rattle.solve.specs.Rows.{flat, rowsOf}
+use Rattle.solve.specs.Stored.{allFine}
 use Rattle.solve.specs.Outcome.{solutionOf, fits, workOf}
 use Rattle.solve.specs.Buffer.{solveOf}
 use Rattle.solve.proofs.Flat.{flat-of-rows, rows-shaped-of}
@@ -30,13 +31,14 @@ use Rattle.curve.specs.declared.Built.{Built}
 use Rattle.curve.specs.Record.{curveOver}
 use Rattle.curve.specs.Build.{building}
 use Rattle.fit.specs.Parameters.{stepAt, parameterAt, knotsBy, fitParameter}
-use Rattle.fit.specs.System.{rowsOk, fitRow, fitRows}
-use Rattle.fit.specs.Fit.{controlsFor, knotsThrough, rowThrough, rowsThrough, solutionThrough, curveThrough, fitFine, making}
+use Rattle.fit.specs.System.{fitRows}
+use Rattle.fit.specs.Fit.{controlsFor, knotsThrough, rowsThrough, solutionThrough, curveThrough, fitFine, making}
 use Rattle.fit.specs.Fitting.{workFor}
-use Rattle.fit.specs.Stored.{foundFitRow, foundFitRows, StoredAll, lastRule, curveWith, interpolated}
+use Rattle.fit.specs.Stored.{foundFitRows, StoredAll, lastRule, curveWith, interpolated}
 use Rattle.fit.proofs.Sums.{parameter-cong, knots-cong}
-use Rattle.fit.proofs.Rows.{fit-row-cong, fit-rows-cong, found-shaped}
+use Rattle.fit.proofs.Rows.{fit-rows-cong, found-shaped}
 use Rattle.fit.proofs.Rising.{fit-span}
+use Rattle.fit.proofs.Judged.{fit-fine, fine-tame}
 
 -- ---- the solve of the filled buffer
 
@@ -90,13 +92,6 @@ module _ (q p u : List Float) (two : 2 ≤ pointsIn q) (few : pointsIn q ≤ 64)
     span-is : halvedOf (knotsThrough q) (controlsFor q) ≡ spanOf (knotsThrough q) (controlsFor q)
     span-is = λ i t. fit-span q (pointsIn q) two few tame t i
 
-    row-is : (r : ℕ) → foundFitRow u p q (pointsIn q) r ≡ rowThrough q r
-    unfolding foundFitRow
-    row-is r =
-        fit-row-cong plain (halvedOf u (controlsFor q)) u (at1 plain p) (fitParameter plain q (pointsIn q)) q (pointsIn q) (omega arith) (λ k l. hp .same k l) r
-        ∙ ap (λ (us : List Float). fitRow plain (halvedOf us (controlsFor q)) us (fitParameter plain q (pointsIn q)) q (pointsIn q) r) knots-are
-        ∙ ap (λ (sp : Span). fitRow plain sp (knotsThrough q) (fitParameter plain q (pointsIn q)) q (pointsIn q) r) span-is
-
     rows-are : foundFitRows u p q (pointsIn q) ≡ rowsThrough q
     unfolding foundFitRows
     rows-are =
@@ -106,27 +101,26 @@ module _ (q p u : List Float) (two : 2 ≤ pointsIn q) (few : pointsIn q ≤ 64)
 
   -- ---- the verdicts of the filling and of the solve, and what is built
   module _ (stored : Bool) (s : Solved)
-      (hr : stored ≡ rowsOk plain (controlsFor q) (foundFitRow u p q (pointsIn q)))
+      (hr : stored ≡ allFine plain (flatten (foundFitRows u p q (pointsIn q))))
       (hv : view s ≡ solutionOf plain (controlsFor q) (foundFitRows u p q (pointsIn q))) where
     tame-solution : someWild (knotsThrough q) 70 ≡ false → view s ≡ solutionThrough q
     unfolding solutionThrough
     tame-solution tame = hv ∙ ap (solutionOf plain (controlsFor q)) (rows-are tame)
 
     verdict : (not (someWild u 70) && (stored && s .fine)) ≡ fitFine q
-    unfolding fitFine
     verdict =
-        rw (ap (λ (us : List Float). someWild us 70) knots-are)
+        rw (ap (λ (us : List Float). someWild us 70) knots-are, fit-fine q)
         (by-two (someWild (knotsThrough q) 70) (λ wild. rw wild)
         (λ tame.
-        let rows : stored ≡ rowsOk plain (controlsFor q) (rowThrough q) = hr ∙ ap (rowsOk plain (controlsFor q)) (λ i r. row-is tame r i) in
+        let rows = hr ∙ ap (λ (M : List (List Float)). allFine plain (flatten M)) (rows-are tame) in
         rw tame (λ i. rows i && tame-solution tame i .fine)))
 
     built-with : curveWith (controlsFor q) u stored s ≡ building (lastRule (fitFine q)) (curveThrough q)
-    unfolding curveThrough fitFine
+    unfolding curveThrough
     built-with =
         building-as _ _ _ _ (ap (λ (t : Bool). firstOf (lastRule t)) verdict)
         (λ h.
-        let v = tame-solution (not-true (someWild (knotsThrough q) 70) (and-left _ _ (not-false (fitFine q) (row-passed 14 _ [] h .0)))) in
+        let v = tame-solution (fine-tame q (not-false (fitFine q) (row-passed 14 _ [] h .0))) in
         λ i. curveOver (controlsFor q) (knots-are i) (v i .xs) (v i .ys))
 
   -- the buffer was filled and solved

@@ -1,33 +1,29 @@
--- A curve through points. docs/RULES.md, "Fit points", "Work" and "Refusals", decides.
-use mathlib.Core.Bool.{Bool, not, _&&_, cond}
-use mathlib.Core.List.{List}
+-- A curve through points. docs/RULES.md, "Fit points", "Work" and "When 15 is given", decides.
+use mathlib.Core.Bool.{Bool, cond}
+use mathlib.Core.List.{List, _++_, flatten}
 use Prim.Native.Nat.{ℕ, _+_}
 use lib.Ieee.{Float}
 use Rattle.meaning.specs.Scalar.{plain}
 use Rattle.refusal.specs.Refusals.{passes}
 use Rattle.knots.specs.declared.Form.the-variants.{Fit}
 use Rattle.span.specs.Span.{spanOf}
+use Rattle.solve.specs.Stored.{allFine, storedBySolve}
 use Rattle.solve.specs.Outcome.{Solution, solutionOf, workOf}
-use Rattle.outcome.specs.Outcome.{someWild}
 use Rattle.shape.specs.Shape.{pointsIn}
 use Rattle.curve.specs.declared.Curve.{Curve}
 use Rattle.curve.specs.declared.Built.{Built}
 use Rattle.curve.specs.Record.{curveOver}
 use Rattle.curve.specs.Build.{roomRules}
 use Rattle.fit.specs.Parameters.{fitParameter, fitKnots}
-use Rattle.fit.specs.System.{fitRow, fitRows, rowsOk}
+use Rattle.fit.specs.System.{fitRows}
 
 -- how many control points the curve through the points q has
 abbrev pub controlsFor : List Float → ℕ
 controlsFor q = pointsIn q + 2
 
--- the knots, row r of the system, and its rows; the span is the rules'
+-- the knots, and the rows of the system; the span is the rules'
 abbrev pub knotsThrough : List Float → List Float
 knotsThrough q = fitKnots plain q (pointsIn q)
-
-abbrev pub rowThrough : List Float → ℕ → List Float
-rowThrough q r =
-    fitRow plain (spanOf (knotsThrough q) (controlsFor q)) (knotsThrough q) (fitParameter plain q (pointsIn q)) q (pointsIn q) r
 
 abbrev pub rowsThrough : List Float → List (List Float)
 rowsThrough q =
@@ -40,9 +36,13 @@ solutionThrough q = solutionOf plain (controlsFor q) (rowsThrough q)
 unfoldable pub curveThrough : List Float → Curve
 curveThrough q = let s = solutionThrough q in curveOver (controlsFor q) (knotsThrough q) (s .xs) (s .ys)
 
--- every number that is stored is finite: each knot, each matrix number and right side, and each that the solve stores. The steps are not stored.
+-- every number that is stored: the knots, the matrix with the right sides, and what the solve stores. The steps are not stored.
+unfoldable pub storedThrough : List Float → List Float
+storedThrough q = knotsThrough q ++ flatten (rowsThrough q) ++ storedBySolve plain (controlsFor q) (rowsThrough q)
+
+-- each of them is finite
 unfoldable pub fitFine : List Float → Bool
-fitFine q = not (someWild (knotsThrough q) 70) && (rowsOk plain (controlsFor q) (rowThrough q) && solutionThrough q .fine)
+fitFine q = allFine plain (storedThrough q)
 
 -- the work buffer afterwards: zeros in the needed part once the rules 1 to 14 let it be used
 unfoldable pub workAfter : List Float → Bool → List Float → Bool → List Float → List Float

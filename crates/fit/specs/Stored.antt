@@ -2,7 +2,7 @@
 -- and what is answered past the rules 1 to 14. The span is the one that the search finds; where the knots do not fall it is the rules'.
 use mathlib.Core.Path.{_≡_}
 use mathlib.Core.Bool.{Bool, not, _&&_}
-use mathlib.Core.List.{List, [], _∷_}
+use mathlib.Core.List.{List, [], _∷_, flatten}
 use Prim.Native.Nat.{ℕ, _+_}
 use lib.ListN.{set}
 use lib.Ieee.{Float}
@@ -13,12 +13,13 @@ use Rattle.plane.specs.Vector.{Vector}
 use Rattle.refusal.specs.Refusals.{Row, row}
 use Rattle.solve.specs.declared.Solved.{Solved}
 use Rattle.solve.specs.Rows.{flat, ofRows}
+use Rattle.solve.specs.Stored.{allFine}
 use Rattle.solve.specs.Outcome.{workOf}
 use Rattle.outcome.specs.Outcome.{someWild}
 use Rattle.curve.specs.declared.Built.{Built}
 use Rattle.curve.specs.Record.{curveOver}
 use Rattle.curve.specs.Build.{building}
-use Rattle.fit.specs.System.{rowOk, rowsOk, rowOf, fitRow, fitRows}
+use Rattle.fit.specs.System.{rowOf, fitRow, fitRows}
 use Rattle.fit.specs.Fit.{controlsFor, curveThrough, fitFine, Making, making}
 
 -- the row over the knots us that says: the derivative of order d at t is b
@@ -35,20 +36,20 @@ unfoldable pub foundFitRows : List Float → List Float → List Float → ℕ �
 unfolding fitRows
 foundFitRows us ps q n = fitRows plain (halvedOf us (n + 2)) us (at1 plain ps) q n
 
--- `out` is the row, and `fine` tells whether its m + 2 numbers are finite
-pub record Stored (m : ℕ) (row out : List Float) (fine : Bool) : Type 0 where
+-- `out` is the row, and `fine` tells whether its numbers are finite
+pub record Stored (row out : List Float) (fine : Bool) : Type 0 where
   pub held : out ≡ row
-  pub judged : fine ≡ rowOk plain m row
+  pub judged : fine ≡ allFine plain row
 
 -- the same of row r of the m rows at the front of the buffer w, which is w′ afterwards
 pub record StoredAt (m r : ℕ) (row w w′ : List Float) (fine : Bool) : Type 0 where
   pub held : ofRows m (m + 2) w (λ M rest. w′ ≡ flat (set M r row) rest)
-  pub judged : fine ≡ rowOk plain m row
+  pub judged : fine ≡ allFine plain row
 
 -- and of every row of the system for n points
 pub record StoredAll (us ps q : List Float) (n : ℕ) (w w′ : List Float) (fine : Bool) : Type 0 where
   pub held : ofRows (n + 2) (n + 2 + 2) w (λ M rest. w′ ≡ flat (foundFitRows us ps q n) rest)
-  pub judged : fine ≡ rowsOk plain (n + 2) (foundFitRow us ps q n)
+  pub judged : fine ≡ allFine plain (flatten (foundFitRows us ps q n))
 
 -- ---- past the rules 1 to 14
 

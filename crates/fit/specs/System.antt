@@ -2,7 +2,7 @@
 -- C''(0) = 0, C at each parameter, C''(1) = 0, and with n points there are m = n + 2 control points. A row is given by the number that stands at
 -- each index of it, so that another form of fit makes other rows of the same `rowAt`. n is the number of stations, the points that the curve passes
 -- one after the other; a further form of fit has other stations and other end rows, and n + 2 control points all the same.
-use mathlib.Core.Bool.{Bool, _&&_, cond}
+use mathlib.Core.Bool.{_&&_, cond}
 use mathlib.Core.List.{List, []}
 use Prim.Native.Nat.{ℕ, _+_, _-_}
 use lib.ListN.{getD}
@@ -10,7 +10,7 @@ use lib.Dec.{ltb, leb, eqb}
 use lib.Ieee.{Float}
 use Rattle.meaning.specs.Scalar.{Ops, zero64, one64}
 use Rattle.meaning.specs.Table.{at1}
-use Rattle.meaning.specs.Search.{listed, every}
+use Rattle.meaning.specs.Search.{listed}
 use Rattle.basis.specs.Basis.{basisOf}
 use Rattle.plane.specs.Vector.{Vector}
 use Rattle.fit.specs.Parameters.{pointAt}
@@ -26,16 +26,6 @@ module _ {A : Type 0} (o : Ops A) where
   -- number k of a row: m matrix numbers, then the two right sides
   unfoldable pub withSides : ℕ → (ℕ → A) → Vector A → ℕ → A
   withSides m entry b k = cond (ltb k m) (entry k) (cond (eqb k m) (b .x) (b .y))
-
-  -- every number of a row of m + 2 is finite
-  unfoldable pub rowOk : ℕ → List A → Bool
-  unfolding every
-  rowOk m row = every (m + 2) (λ k. o .fine (at1 o row k))
-
-  -- every number of m rows is
-  unfoldable pub rowsOk : ℕ → (ℕ → List A) → Bool
-  unfolding every rowOk
-  rowsOk m row = every m (λ r. rowOk m (row r))
 
 -- `sp` finds the span of a parameter among the knots us
 module _ {A : Type 0} (o : Ops A) (sp : Float → ℕ) (us : List A) where

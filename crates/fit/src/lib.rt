@@ -159,7 +159,7 @@ fn number_at(four: [f64; 4], i: usize, m: usize, b: P2, k: usize) -> f64
 // A row filled with four numbers and the right sides. Answers whether all that is stored is finite.
 fn fill_row(t: &mut [f64], four: [f64; 4], i: usize, m: usize, b: P2) -> bool
     requires { ⌜ (m ≤ 66) × (length (now t) ≡ m + 2) ⌝ }
-    ensures { λ r. ⌜ Stored m (listed 0 (m + 2) (withSides plain m (spread plain four i) (view b))) (now (t .exit)) r ⌝ }
+    ensures { λ r. ⌜ Stored (listed 0 (m + 2) (withSides plain m (spread plain four i) (view b))) (now (t .exit)) r ⌝ }
 {
     let mut fine = true;
     let end = m + 2;
@@ -174,7 +174,7 @@ fn fill_row(t: &mut [f64], four: [f64; 4], i: usize, m: usize, b: P2) -> bool
 // The row that says: the derivative of order d at t is b.
 fn set_row(row: &mut [f64], u: &[f64; 70], m: usize, t: f64, d: usize, b: P2) -> bool
     requires { ⌜ (m ≤ 66) × (d ≤ 4) × (length (now row) ≡ m + 2) ⌝ }
-    ensures { λ r. ⌜ Stored m (foundRow (now (u .entry)) m t d (view b)) (now (row .exit)) r ⌝ }
+    ensures { λ r. ⌜ Stored (foundRow (now (u .entry)) m t d (view b)) (now (row .exit)) r ⌝ }
 {
     let i = span::span(u, m, t);
     let ders = basis::plain::basis(u, i, t, d);
@@ -191,7 +191,7 @@ fn system_row<'a>(
     r: usize,
 ) -> bool
     requires { ⌜ (n ≤ 64) × (r < n + 2) × (2 * n ≤ length (now q)) × (length (now row) ≡ n + 2 + 2) ⌝ }
-    ensures { λ b. ⌜ Stored (n + 2) (foundFitRow (now (u .entry)) (now (p .entry)) (now (q .entry)) n r) (now (row .exit)) b ⌝ }
+    ensures { λ b. ⌜ Stored (foundFitRow (now (u .entry)) (now (p .entry)) (now (q .entry)) n r) (now (row .exit)) b ⌝ }
 {
     let m = n + 2;
     if r == 0 {

@@ -18,7 +18,8 @@ use Rattle.shape.specs.Shape.{Shape}
 use Rattle.evaluate.specs.Point.{weighted}
 use Rattle.hull.specs.Units.{U, plus, minus, riseOf}
 use Rattle.hull.specs.Hull.{leastOf, greatestOf, largestOf, InHull}
-use Rattle.hull.specs.Asked.{Coordinates, InDomain, spanAt, LongSpan, Modest}
+use Rattle.hull.specs.Asked.{spanAt, LongSpan, Modest}
+use Rattle.hull.proofs.Given.{Coordinates, Within}
 use Rattle.hull.proofs.Operations.{Whole, parts}
 use Rattle.hull.proofs.Reading.{whole}
 use Rattle.hull.proofs.Sums.{NearHull}
@@ -28,7 +29,7 @@ use Rattle.hull.proofs.FourPoints.{bounds, between}
 use Rattle.hull.proofs.SixKnots.{each, holds, six}
 use Rattle.hull.proofs.RowZero.{coordinate-is}
 
-module _ (c : Shape Float) (t : Float) (a : Accepted (take (c .n + 4) (c .knots)) (c .n)) (d : InDomain c t) (cs : List Float)
+module _ (c : Shape Float) (t : Float) (a : Accepted (take (c .n + 4) (c .knots)) (c .n)) (d : Within c t) (cs : List Float)
     (k : Coordinates (c .n) cs) (nd : ℕ) where
   -- what the definition makes of them at t, where the orders up to nd are asked for
   abbrev answered : Float

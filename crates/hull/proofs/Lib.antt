@@ -13,6 +13,7 @@ pub mod Sums
 pub mod Around
 pub mod FiniteWeights
 pub mod FinitePoint
+pub mod Given
 pub mod SixKnots
 pub mod RowZero
 pub mod FourPoints

@@ -16,18 +16,19 @@ use lib.Ieee.Fits.{nan-fits}
 use Rattle.meaning.specs.Scalar.{plain}
 use Rattle.meaning.specs.Table.{at1}
 use Rattle.meaning.proofs.Order as order
-use Rattle.knots.specs.Rules.{knot, count, crowded, someCrowded}
+use Rattle.knots.specs.Rules.{knot, NotFalling, count, crowded, someCrowded}
 use Rattle.knots.specs.Repeat.{repeats}
 use Rattle.span.specs.Span.{spanOf}
 use Rattle.meaning.proofs.Tests.{no, by-two}
 use Rattle.meaning.proofs.Searching.{none-found, found-none}
-use Rattle.knots.proofs.Sorted.{NotFalling, no-nan, ordered, front}
+use Rattle.knots.proofs.Sorted.{no-nan, ordered, front}
 use Rattle.knots.proofs.Repeats.{one-pass}
-use Rattle.knots.proofs.Accepted.{Accepted, number-no-nan}
+use Rattle.knots.proofs.Accepted.{Accepted}
 use Rattle.span.proofs.Spans.{Inside, span-inside}
 use Rattle.shape.specs.Shape.{Shape}
 use Rattle.hull.specs.Units.{U}
-use Rattle.hull.specs.Asked.{AllDoubles, InDomain, spanAt}
+use Rattle.hull.specs.Asked.{spanAt}
+use Rattle.hull.proofs.Given.{AllDoubles, Within}
 use Rattle.hull.proofs.Operations.{Whole, one-part, parts}
 use Rattle.hull.proofs.Reading.{AtMost, whole, lt-under, le-at-most}
 use Rattle.hull.proofs.Around.{Knot, Six}
@@ -143,9 +144,9 @@ between-size : (ap an tp tn bp bn s : ℕ) → (tp ≡ 0) ⊎ (tn ≡ 0) → ap 
 between-size ap an tp tn bp bn s (inl z) h k l m = omega arith
 between-size ap an tp tn bp bn s (inr z) h k l m = omega arith
 
-module _ (c : Shape Float) (t : Float) (a : Accepted (take (c .n + 4) (c .knots)) (c .n)) (d : InDomain c t) where
+module _ (c : Shape Float) (t : Float) (a : Accepted (take (c .n + 4) (c .knots)) (c .n)) (d : Within c t) where
   pub holds : Holds (c .knots) (c .n) t (spanAt c t)
-  holds = span-holds (c .knots) (c .n) a t (number-no-nan t (d .number)) (d .from) (d .to)
+  holds = span-holds (c .knots) (c .n) a t (order.finite-no-nan t (d .number)) (d .from) (d .to)
 
   knot-at : (i : ℕ) → i < c .n + 4 → Knot (knot (c .knots) i)
   knot-at i h =

@@ -4,26 +4,25 @@
 use mathlib.Core.Path.{_≡_, refl, sym, ap, _∙_, subst}
 use mathlib.Core.Bool.{true, false, not}
 use mathlib.Core.List.{List}
-use Prim.Native.Nat.{ℕ, zero, suc, _+_, _*_, _≤_, _<_, zero-le}
+use Prim.Native.Nat.{ℕ, zero, suc, _+_, _≤_, _<_}
 use native.Mathlib.Omega.{arith}
-use borrow.Author.Tests.{not-false}
-use lib.ListN.{getD, length, take}
-use lib.Seq.{getD-take, paste, take-paste}
-use lib.Ieee.{Float, nan}
+use lib.ListN.{length, take}
+use lib.Ieee.{Float}
 use lib.Ieee.Scale.{finite}
 use Rattle.meaning.specs.Scalar.{plain}
 use Rattle.meaning.specs.Loops.{turns}
 use Rattle.meaning.specs.Table.{at1}
 use Rattle.meaning.specs.Search.{some}
 use Rattle.span.specs.Span.{spanOf}
-use Rattle.meaning.proofs.Searching.{none-found, found-none}
+use Rattle.meaning.proofs.Searching.{found-none}
 use Rattle.knots.proofs.Accepted.{Accepted}
 use Rattle.plane.specs.Vector.{Vector}
 use Rattle.shape.specs.Shape.{Shape}
 use Rattle.evaluate.specs.Point.{placed, insideOf, ordersOf}
 use Rattle.evaluate.proofs.Places.{in-domain}
 use Rattle.hull.specs.Hull.{InHull}
-use Rattle.hull.specs.Asked.{Coordinates, InDomain, spanAt, LongSpan, Modest}
+use Rattle.hull.specs.Asked.{spanAt, LongSpan, Modest}
+use Rattle.hull.proofs.Given.{Coordinates, Within}
 use Rattle.hull.proofs.Coordinate.{hull-coordinate, fine-coordinate}
 
 -- ---- the point stands first in the room for five orders
@@ -44,7 +43,7 @@ module _ (f : ℕ → Vector Float) where
   in-front (suc (suc (suc (suc zero)))) h = record { long = refl; x-first = refl; y-next = refl }
   in-front (suc (suc (suc (suc (suc nd))))) h = absurd (omega arith)
 
-module _ (c : Shape Float) (t : Float) (a : Accepted (take (c .n + 4) (c .knots)) (c .n)) (d : InDomain c t) (nd : ℕ) where
+module _ (c : Shape Float) (t : Float) (a : Accepted (take (c .n + 4) (c .knots)) (c .n)) (d : Within c t) (nd : ℕ) where
   -- ---- the point by the polynomial of its span
 
   -- what evaluation's definition has for the point, where the orders up to nd are asked for
@@ -80,20 +79,14 @@ module _ (c : Shape Float) (t : Float) (a : Accepted (take (c .n + 4) (c .knots)
         (in-domain plain (spanOf (c .knots) (c .n)) c t nd (a .four) (a .room) q (d .from) (d .to))
         (in-front (insideOf plain (spanOf (c .knots) (c .n)) c t nd) nd q)
 
-    pub x-is : at1 plain orders 0 ≡ point .x
+    x-is : at1 plain orders 0 ≡ point .x
     x-is = front .x-first
 
-    pub y-is : at1 plain orders 1 ≡ point .y
+    y-is : at1 plain orders 1 ≡ point .y
     y-is = front .y-next
 
-    -- the entries of a buffer that the orders are written to
-    pub written-is : (out : List Float) (j : ℕ) → j < 2 → at1 plain (paste out 0 orders (2 * (nd + 1))) j ≡ at1 plain orders j
-    written-is out j h =
-        let m = 2 * (nd + 1) in
-        let l = front .long in
-        sym (getD-take (0 + m) (paste out 0 orders m) j nan (omega arith))
-        ∙ ap (λ (s : List Float). getD s j nan) (take-paste out 0 orders m zero-le (omega arith))
-        ∙ getD-take m orders j nan (omega arith)
+    pub ten : length orders ≡ 10
+    ten = front .long
 
     pub hull-point : Coordinates (c .n) (c .xs) → Coordinates (c .n) (c .ys) → ((j : ℕ) → j < 2 → finite (at1 plain orders j) ≡ true)
         → InHull (c .xs) (spanAt c t) (at1 plain orders 0) × InHull (c .ys) (spanAt c t) (at1 plain orders 1)
@@ -109,14 +102,7 @@ module _ (c : Shape Float) (t : Float) (a : Accepted (take (c .n + 4) (c .knots)
     never-refused kx ky l mx my (suc zero) h = ap finite y-is ∙ fine-y ky l my
     never-refused kx ky l mx my (suc (suc j)) h = absurd (omega arith)
 
-    -- ---- the same by row 15's test, that one of the first numbers answered is not finite
-
-    pub hull-answered : Coordinates (c .n) (c .xs) → Coordinates (c .n) (c .ys) → some 0 (2 * (nd + 1)) (λ j. not (finite (at1 plain orders j))) ≡ false
-        → InHull (c .xs) (spanAt c t) (at1 plain orders 0) × InHull (c .ys) (spanAt c t) (at1 plain orders 1)
-    hull-answered kx ky w =
-        hull-point kx ky (λ j h. not-false _ (none-found (λ j. not (finite (at1 plain orders j))) 0 (2 * (nd + 1)) w j zero-le (omega arith)))
-
-    -- of the point alone
+    -- of the point alone, by row 15's test: that one of the two numbers is not finite
     pub point-passes : Coordinates (c .n) (c .xs) → Coordinates (c .n) (c .ys) → LongSpan c (spanAt c t) → Modest (c .n) (c .xs) → Modest (c .n) (c .ys)
         → some 0 2 (λ j. not (finite (at1 plain orders j))) ≡ false
     point-passes kx ky l mx my = found-none (λ j. not (finite (at1 plain orders j))) 0 2 (λ j g h. ap not (never-refused kx ky l mx my j h))

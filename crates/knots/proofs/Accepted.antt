@@ -1,5 +1,5 @@
 -- What the rules say of a list that they let through, as facts on its knots, and the other way round. Assumes nothing.
-use mathlib.Core.Path.{_≡_, refl, sym, _∙_}
+use mathlib.Core.Path.{_≡_, sym, _∙_}
 use mathlib.Core.Bool.{true, false, not, _&&_}
 use mathlib.Core.List.{List}
 use Prim.Native.Nat.{ℕ, _+_, _-_, _≤_, _<_, zero-le}
@@ -7,27 +7,19 @@ use native.Mathlib.Omega.{arith}
 use borrow.Author.Tests.{ltb-false, eqb-true, lt-ltb, not-false}
 use lib.ListN.{length}
 use lib.Dec.{ltb}
-use lib.Ieee.{Float, nan, inf, fin, lt, eq, ne, isNan}
+use lib.Ieee.{Float, lt, eq, ne}
 use lib.Ieee.Scale.{finite}
 use Rattle.refusal.proofs.Rows.{Passed, row-passed, number-of}
 use Rattle.knots.specs.declared.Form.the-variants.{Control}
-use Rattle.meaning.proofs.Order.{not-lt-le, not-le-lt}
+use Rattle.meaning.proofs.Order.{finite-no-nan, not-lt-le, not-le-lt}
 use Rattle.meaning.specs.Search.{some}
-use Rattle.knots.specs.Rules.{knot, count, unfit, someUnfit, unlike, noInterval, crowded, knotRules}
+use Rattle.knots.specs.Rules.{knot, NotFalling, count, unfit, someUnfit, unlike, noInterval, crowded, knotRules}
 use Rattle.knots.specs.Repeat.{repeats}
 use Rattle.meaning.proofs.Tests.{or-left, or-right}
 use Rattle.knots.proofs.Refused.{handles-passed, none-unfit}
 use Rattle.meaning.proofs.Searching.{none-found}
-use Rattle.knots.proofs.Sorted.{NotFalling, no-nan}
+use Rattle.knots.proofs.Sorted.{no-nan}
 use Rattle.knots.proofs.Repeats.{Sound, one-pass}
-
--- ---- tests
-
-pub number-no-nan : (x : Float) → finite x ≡ true → isNan x ≡ false
-unfolding isNan
-number-no-nan nan h = sym h
-number-no-nan (inf s) h = refl
-number-no-nan (fin s m e) h = refl
 
 -- ---- each rule on a list
 
@@ -43,7 +35,7 @@ module _ (ks : List Float) (n : ℕ) (long : length ks ≡ n + 4) where
     all-rise i l =
         let e : i + 1 - 1 ≡ i = omega arith in
         let f : (ltb 0 (i + 1) && lt (knot ks (i + 1)) (knot ks (i + 1 - 1))) ≡ false = or-right (not (finite (knot ks (i + 1)))) _ (fit (i + 1) (omega arith)) in
-        not-lt-le _ _ (number-no-nan _ (all-finite (i + 1) (omega arith))) (number-no-nan _ (all-finite i (omega arith)))
+        not-lt-le _ _ (finite-no-nan _ (all-finite (i + 1) (omega arith))) (finite-no-nan _ (all-finite i (omega arith)))
         (rw (lt-ltb 0 (i + 1) (omega arith), e) at f)
 
   all-like : (lo hi j : ℕ) → some lo hi (unlike ks j) ≡ false → (i : ℕ) → lo ≤ i → i < hi → eq (knot ks i) (knot ks j) ≡ true

@@ -13,9 +13,9 @@ use Rattle.meaning.proofs.Order as Order
 use Rattle.meaning.proofs.Tests.{by-two, no}
 use Rattle.meaning.proofs.Searching.{found-none}
 use Rattle.knots.specs.declared.Form.the-variants.{Control}
-use Rattle.knots.specs.Rules.{knot, unfit, someUnfit, unlike, knotRules}
+use Rattle.knots.specs.Rules.{knot, NotFalling, unfit, someUnfit, unlike, knotRules}
 use Rattle.knots.specs.Repeat.{repeats}
-use Rattle.knots.proofs.Sorted.{NotFalling, ordered}
+use Rattle.knots.proofs.Sorted.{ordered}
 use Rattle.knots.proofs.Accepted.{accepts}
 
 -- what is below another does not equal it

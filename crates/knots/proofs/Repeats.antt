@@ -14,11 +14,11 @@ use lib.Seq.{getD-drop}
 use lib.Ieee.{Float, nan, lt, eq}
 use Rattle.meaning.proofs.Order.{nan-eq, eq-le, eq-sym, eq-trans, lt-not-le, eq-refl}
 use Rattle.meaning.specs.Search.{seek, some}
-use Rattle.knots.specs.Rules.{knot, count, crowded, someCrowded}
+use Rattle.knots.specs.Rules.{knot, NotFalling, count, crowded, someCrowded}
 use Rattle.knots.specs.Repeat.{repeats}
 use Rattle.meaning.proofs.Tests.{no, by-two}
 use Rattle.meaning.proofs.Searching.{First, seek-first, some-found, found-some}
-use Rattle.knots.proofs.Sorted.{NotFalling, no-nan, among}
+use Rattle.knots.proofs.Sorted.{no-nan, among}
 
 -- ---- counting
 

@@ -10,11 +10,7 @@ use lib.ListN.{take}
 use lib.Seq.{getD-take}
 use lib.Ieee.{Float, nan, le, eq, isNan}
 use Rattle.meaning.proofs.Order.{le-left, le-right, le-refl, le-trans, le-le-eq, eq-le, eq-sym, eq-trans}
-use Rattle.knots.specs.Rules.{knot}
-
--- the knots 0 to n + 3 do not fall
-abbrev pub NotFalling : List Float → ℕ → Type 0
-NotFalling ks n = (i : ℕ) → i < n + 3 → le (knot ks i) (knot ks (i + 1)) ≡ true
+use Rattle.knots.specs.Rules.{knot, NotFalling}
 
 module _ (ks : List Float) (n : ℕ) (up : NotFalling ks n) where
   pub no-nan : (i : ℕ) → i < n + 4 → isNan (knot ks i) ≡ false

@@ -1,8 +1,9 @@
 -- The rules 2 to 10 for a number of handles and a knot list. docs/RULES.md, "Refusals", decides: each row is one of its table, in its
 -- order, and each test compares as the original's `check` does, so that -0.0 equals 0.0. n control points have n + 4 knots.
+use mathlib.Core.Path.{_≡_}
 use mathlib.Core.Bool.{Bool, true, false, not, _&&_, _||_, cond}
 use mathlib.Core.List.{List, [], _∷_}
-use Prim.Native.Nat.{ℕ, _+_, _-_}
+use Prim.Native.Nat.{ℕ, _+_, _-_, _<_}
 use lib.ListN.{length}
 use lib.Dec.{ltb, leb, eqb}
 use lib.Ieee.{Float, lt, le, eq, ne}
@@ -44,6 +45,10 @@ takesKnots Fit = false
 
 abbrev pub wrongCount : ℕ → List Float → Bool
 wrongCount n ks = not (eqb (length ks) (n + 4))
+
+-- the n + 4 knots do not fall
+abbrev pub NotFalling : List Float → ℕ → Type 0
+NotFalling ks n = (i : ℕ) → i < n + 3 → le (knot ks i) (knot ks (i + 1)) ≡ true
 
 -- knot i is not finite, or is less than the one before
 abbrev pub unfit : List Float → ℕ → Bool

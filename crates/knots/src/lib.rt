@@ -6,6 +6,7 @@ ghost use Prim.Native.Nat.{_+_, _≤_, _<_};
 ghost use lib.ListN.{length};
 ghost use Rattle.refusal.specs.Refusals.{firstOf};
 ghost use Rattle.meaning.specs.Search.{seek};
+ghost use Rattle.meaning.specs.Nowhere.{Nowhere};
 ghost use Rattle.knots.specs.Rules.{unfit, someUnfit, unlike, knotRules};
 ghost use Rattle.knots.specs.Repeat.{repeats};
 ghost use Rattle.knots.specs.declared.Form.the-variants.{Control};
@@ -57,8 +58,21 @@ fn is_unfit(knots: &[f64], i: usize) -> bool
     knots[i] < knots[i - 1]
 }
 
-// The first knot that is not finite or less than the one before, or the number of knots.
-fn first_unfit(knots: &[f64]) -> usize
+// Whether each knot is finite and not less than the one before. The loop has no way out but its end, so that a processor takes several knots at once.
+fn all_fit(knots: &[f64]) -> bool
+    requires { ⌜ 1 ≤ length (now knots) ⌝ }
+    ensures { λ r. ⌜ (r ≡ true → Nowhere (unfit (now (knots .entry))) 0 (length (now (knots .entry)))) ⌝ }
+{
+    let mut fine = number::is_finite(knots[0]);
+    let end = knots.len();
+    for i in 1..end {
+        fine = fine & number::is_finite(knots[i]) & !(knots[i] < knots[i - 1]);
+    }
+    fine
+}
+
+// The first knot that is not finite or less than the one before, or the number of knots, by going from one to the next.
+fn seek_unfit(knots: &[f64]) -> usize
     ensures { λ r. ⌜ r ≡ seek 0 (length (now (knots .entry))) (unfit (now (knots .entry))) ⌝ }
 {
     let end = knots.len();
@@ -68,6 +82,17 @@ fn first_unfit(knots: &[f64]) -> usize
         }
     }
     end
+}
+
+// The same. Most lists have none, which a pass tells first.
+fn first_unfit(knots: &[f64]) -> usize
+    requires { ⌜ 1 ≤ length (now knots) ⌝ }
+    ensures { λ r. ⌜ r ≡ seek 0 (length (now (knots .entry))) (unfit (now (knots .entry))) ⌝ }
+{
+    if all_fit(knots) {
+        return knots.len();
+    }
+    seek_unfit(knots)
 }
 
 // The first knot from lo on, below hi, that is not equal to knot j, or hi.
@@ -83,8 +108,20 @@ fn first_unlike(knots: &[f64], lo: usize, hi: usize, j: usize) -> usize
     hi
 }
 
-// The first knot from 1 on, below n, that equals the third knot after it, or n.
-fn first_repeat(knots: &[f64], n: usize) -> usize
+// Whether no knot from 1 on, below n, equals the third knot after it, in one pass.
+fn none_repeats(knots: &[f64], n: usize) -> bool
+    requires { ⌜ 1 ≤ n ⌝ ∗ ⌜ length (now knots) ≡ n + 4 ⌝ }
+    ensures { λ r. ⌜ (r ≡ true → Nowhere (repeats (now (knots .entry))) 1 n) ⌝ }
+{
+    let mut fine = true;
+    for j in 1..n {
+        fine = fine & (knots[j] != knots[j + 3]);
+    }
+    fine
+}
+
+// The first knot from 1 on, below n, that equals the third knot after it, or n, by going from one to the next.
+fn seek_repeat(knots: &[f64], n: usize) -> usize
     requires { ⌜ 1 ≤ n ⌝ ∗ ⌜ length (now knots) ≡ n + 4 ⌝ }
     ensures { λ r. ⌜ r ≡ seek 1 n (repeats (now (knots .entry))) ⌝ }
 {
@@ -94,6 +131,17 @@ fn first_repeat(knots: &[f64], n: usize) -> usize
         }
     }
     n
+}
+
+// The same. Most lists have none, which a pass tells first.
+fn first_repeat(knots: &[f64], n: usize) -> usize
+    requires { ⌜ 1 ≤ n ⌝ ∗ ⌜ length (now knots) ≡ n + 4 ⌝ }
+    ensures { λ r. ⌜ r ≡ seek 1 n (repeats (now (knots .entry))) ⌝ }
+{
+    if none_repeats(knots, n) {
+        return n;
+    }
+    seek_repeat(knots, n)
 }
 
 // The rules on the ends and on repeats, for n + 4 finite knots that do not fall.

@@ -1,9 +1,12 @@
--- The laws of tests, of loops and searches, of lists filled by index, of the order of doubles and of whole numbers among them.
+-- The laws of tests, of loops and searches, of lists filled by index, of the order of doubles, of sizes, zeros and whole numbers among them.
 pub mod Tests
 pub mod For
 pub mod While
 pub mod Searching
 pub mod Every
 pub mod Filling
+pub mod Pasting
 pub mod Order
+pub mod Sizes
 pub mod Whole
+pub mod Zeros

@@ -10,14 +10,10 @@ use borrow.Author.Tests.{ltb-true, ltb-false, leb-true, leb-false, eqb-true, lt-
 use lib.Dec.{ltb, leb, eqb}
 use lib.Ieee.{Float, nan, inf, fin, up, down, below, level, lt, eq, le, isNan}
 use lib.Ieee.Fits.{down-pos}
-use Rattle.meaning.proofs.Tests.{no, and-left, and-right, or-false}
+use lib.Ieee.Scale.{finite}
+use Rattle.meaning.proofs.Tests.{no, same-test, and-left, and-right, and-both, or-false}
 
 -- ---- tests
-
-same-test : (a b : Bool) → (a ≡ true → b ≡ true) → (b ≡ true → a ≡ true) → a ≡ b
-same-test true b h g = sym (h refl)
-same-test false true h g = g refl
-same-test false false h g = refl
 
 either : (a b : Bool) → a || b ≡ true → (a ≡ true) ⊎ (b ≡ true)
 either true b h = inl refl
@@ -30,6 +26,12 @@ eqb-same : (a b c d : ℕ) → (a ≡ b → c ≡ d) → (c ≡ d → a ≡ b) �
 eqb-same a b c d h g = same-test (eqb a b) (eqb c d) (λ e. eq-eqb c d (h (eqb-true a b e))) (λ e. eq-eqb a b (g (eqb-true c d e)))
 
 -- ---- a NaN: every comparison with it is false
+
+pub finite-no-nan : (x : Float) → finite x ≡ true → isNan x ≡ false
+unfolding isNan
+finite-no-nan nan h = sym h
+finite-no-nan (inf s) h = refl
+finite-no-nan (fin s m e) h = refl
 
 pub nan-lt : (x : Float) → lt nan x ≡ false
 unfolding lt
@@ -98,10 +100,6 @@ below-is false true a b = sym (le-ltb (a + b) (0 + 0) (omega arith))
 below-is true false a b = ltb-same 0 (a + b) (0 + 0) (b + a) (λ h. omega arith) (λ h. omega arith)
 below-is true true a b = ltb-same b a (0 + b) (0 + a) (λ h. omega arith) (λ h. omega arith)
 
-both : (a b : Bool) → a ≡ true → b ≡ true → a && b ≡ true
-both true b h g = g
-both false b h g = h
-
 level-is : (s t : Bool) (a b : ℕ) → level s a t b ≡ eqb (plus s a + minus t b) (plus t b + minus s a)
 level-is s t a b =
     same-test (level s a t b) (eqb (plus s a + minus t b) (plus t b + minus s a))
@@ -114,10 +112,10 @@ level-is s t a b =
     to true true e h = omega arith
 
     from : (s t : Bool) → plus s a + minus t b ≡ plus t b + minus s a → level s a t b ≡ true
-    from false false e = both (eqb a b) true (eq-eqb a b (omega arith)) refl
-    from false true e = both (eqb a b) (eqb a 0) (eq-eqb a b (omega arith)) (eq-eqb a 0 (omega arith))
-    from true false e = both (eqb a b) (eqb a 0) (eq-eqb a b (omega arith)) (eq-eqb a 0 (omega arith))
-    from true true e = both (eqb a b) true (eq-eqb a b (omega arith)) refl
+    from false false e = and-both (eqb a b) true (eq-eqb a b (omega arith)) refl
+    from false true e = and-both (eqb a b) (eqb a 0) (eq-eqb a b (omega arith)) (eq-eqb a 0 (omega arith))
+    from true false e = and-both (eqb a b) (eqb a 0) (eq-eqb a b (omega arith)) (eq-eqb a 0 (omega arith))
+    from true true e = and-both (eqb a b) true (eq-eqb a b (omega arith)) refl
 
 -- ---- a value in parts of 1 / D
 

@@ -8,6 +8,7 @@ use native.Mathlib.Omega.{arith}
 use borrow.Author.Count.{below-more}
 use borrow.Author.Tests.{ltb-true, ltb-false, lt-ltb, le-ltb}
 use Rattle.meaning.specs.Search.{seekFrom, seek, some}
+use Rattle.meaning.specs.Nowhere.{Nowhere}
 
 -- r is the first index from lo on, below hi, at which p holds, or it is hi and there is none
 pub record First (p : ℕ → Bool) (lo hi r : ℕ) : Type 0 where
@@ -106,6 +107,18 @@ module _ {p : ℕ → Bool} {lo hi : ℕ} where
   pub ended : {k : ℕ} → Passed p lo hi k → hi ≤ k → hi ≡ seek lo hi p
   ended {k} a h =
       seek-is p lo hi hi (record { low = omega (arith, a .low, a .high); high = le-refl hi; before = λ i g l. a .before i g (omega (arith, a .high)); found = λ l. absurd (omega arith) })
+
+-- ---- a pass before the loop, which keeps in a flag that the test has failed so far: where the flag stands at the end, there is nothing to find
+
+module _ (p : ℕ → Bool) (lo : ℕ) where
+  pub nowhere-yet : Nowhere p lo lo
+  nowhere-yet i g l = absurd (omega arith)
+
+  pub nowhere-more : (k : ℕ) → Nowhere p lo k → p k ≡ false → Nowhere p lo (k + 1)
+  nowhere-more k a e i g l = below-more (λ j. lo ≤ j → p j ≡ false) k (λ j m h. a j h m) (λ h. e) i l g
+
+  pub nowhere-found : (hi : ℕ) → lo ≤ hi → Nowhere p lo hi → hi ≡ seek lo hi p
+  nowhere-found hi h a = ended {p = p} {lo = lo} {hi = hi} (record { low = h; high = le-refl hi; before = a }) (le-refl hi)
 
 -- ---- what the answer of such a loop tells
 

@@ -14,6 +14,16 @@ pub by-two : (b : Bool) {A : Type 0} → (b ≡ true → A) → (b ≡ false →
 by-two true h g = h refl
 by-two false h g = g refl
 
+-- tests that hold together are the same
+pub same-test : (a b : Bool) → (a ≡ true → b ≡ true) → (b ≡ true → a ≡ true) → a ≡ b
+same-test true b h g = sym (h refl)
+same-test false true h g = g refl
+same-test false false h g = refl
+
+pub and-both : (a b : Bool) → a ≡ true → b ≡ true → a && b ≡ true
+and-both true b h g = g
+and-both false b h g = h
+
 pub and-left : (a b : Bool) → a && b ≡ true → a ≡ true
 and-left true b h = refl
 and-left false b h = h

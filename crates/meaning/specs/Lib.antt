@@ -5,3 +5,4 @@ pub mod Scalar
 pub mod Loops
 pub mod Table
 pub mod Search
+pub mod Nowhere

@@ -5,13 +5,12 @@ ghost use lib.Ieee.Scale.{finite};
 ghost use Rattle.meaning.specs.Number.{sizeOf, smaller, atLeast, clampOf};
 ghost use Rattle.number.specs.Magnitude.{magnitudeOf};
 
-// Whether x is neither a NaN nor an infinity.
+// Whether x is neither a NaN nor an infinity: either of them less itself is a NaN. It is one value and no branch, so that a loop can take several at once.
 // Corresponds to spline.rs: f64::is_finite.
 pub fn is_finite(x: f64) -> bool
     ensures { λ r. ⌜ r ≡ finite x ⌝ }
 {
-    let infinite = f64::from_bits(0x7ff0_0000_0000_0000);
-    if x < infinite { -infinite < x } else { false }
+    x - x == 0.0
 }
 
 // x without its sign. A zero is set, since minus zero does not compare below zero.

@@ -1,7 +1,7 @@
--- The length and the direction from their parts, over any scalar: the proofs of both copies cite these. Assumes nothing.
-use mathlib.Core.Path.{_≡_}
+-- The length and the direction from their parts, over any scalar: the proofs of both copies cite these. What is negated twice. Assumes nothing.
+use mathlib.Core.Path.{_≡_, refl}
 use mathlib.Core.Bool.{true, false}
-use lib.Ieee.{binary64, mul, lt}
+use lib.Ieee.{Float, nan, inf, fin, binary64, neg, mul, lt}
 use Rattle.meaning.specs.Scalar.{Ops, plain, zero64, one64}
 use Rattle.plane.specs.Vector.{Vector, degenerate, dotV, normV, unitV}
 
@@ -23,3 +23,11 @@ module _ {A : Type 0} (o : Ops A) (a : Vector A) where
       → record { x = o .over (a .x) len; y = o .over (a .y) len } ≡ unitV o a
   unfolding unitV
   unit-some p h = rw (rw p at h, p)
+
+pub neg-neg : (x : Float) → neg (neg x) ≡ x
+unfolding neg
+neg-neg nan = refl
+neg-neg (inf true) = refl
+neg-neg (inf false) = refl
+neg-neg (fin true m e) = refl
+neg-neg (fin false m e) = refl

@@ -24,6 +24,14 @@ module _ {A : Type 0} (o : Ops A) where
   abbrev pub dotV : Vector A → Vector A → A
   dotV a b = o .plus (o .times (a .x) (b .x)) (o .times (a .y) (b .y))
 
+  -- the outer product
+  abbrev pub crossV : Vector A → Vector A → A
+  crossV a b = o .minus (o .times (a .x) (b .y)) (o .times (a .y) (b .x))
+
+  -- A quarter turn counter-clockwise. What is negated twice is what it was, but as a result, whose partials are counted.
+  abbrev pub rot90V : Vector A → Vector A
+  rot90V a = record { x = o .opp (a .y); y = o .opp (o .opp (a .x)) }
+
   -- The root of the square; of a near-zero vector it is a constant. (the original takes the greater of the square and 0 there, which is the square.)
   unfoldable pub normV : Vector A → A
   normV a = let sq = dotV a a in cond (lt (o .val sq) degenerate) (o .cst (plain .root (o .val sq))) (o .root sq)

@@ -1,29 +1,19 @@
 // What is asked of a curve at a parameter: the point with its derivatives, the unit tangent. A curve is checked again, whoever made it.
 ghost use mathlib.Core.Path.{_≡_};
-ghost use Prim.Native.Nat.{_+_};
-ghost use lib.ListN.{take};
-ghost use Rattle.knots.proofs.Accepted.{Accepted};
-ghost use Rattle.outcome.specs.Outcome.{outcome};
+ghost use Rattle.outcome.specs.Outcome.{outcome, answering};
 ghost use Rattle.shape.specs.Offered.{inSlices};
-ghost use Rattle.shape.specs.Trusting.{trusting};
 ghost use Rattle.curve.specs.Record.{byRecord};
-ghost use Rattle.point.specs.Point.{pointAnswer, tangentAnswer};
+ghost use Rattle.hull.specs.Promise.{InItsHull, NeverRefused};
+ghost use Rattle.point.specs.Point.{numbersFor, pointRows, pointAnswer, unitIn, tangentRows, tangentAnswer};
 use curve::Curve;
+use knots::Form;
 use plane::P2;
 use refusal::Refusal;
 
-// The orders 0 to order at t.
-fn answer_point<'a>(
-    n: usize,
-    xs: &'a [f64; 66],
-    ys: &'a [f64; 66],
-    u: &'a [f64; 70],
-    t: f64,
-    order: usize,
-    out: &mut [f64],
-) -> Refusal
-    requires { ⌜ Accepted (take (n + 4) (now u)) n ⌝ }
-    ensures { λ r. ⌜ outcome r (now (out .exit)) ≡ pointAnswer (trusting n (now (xs .entry)) (now (ys .entry)) (now (u .entry))) t order (now (out .entry)) ⌝ }
+// The orders 0 to order, which stand in room, as the answer at t.
+fn answer_point(room: &[f64; 10], t: f64, order: usize, out: &mut [f64]) -> Refusal
+    ensures { λ r. ⌜ outcome r (now (out .exit))
+        ≡ answering (pointRows (now (room .entry)) t order (now (out .entry))) (now (room .entry)) (numbersFor order) (now (out .entry)) ⌝ }
 {
     if !number::is_finite(t) {
         return refusal::by(12);
@@ -31,26 +21,17 @@ fn answer_point<'a>(
     if order > 4 {
         return refusal::by(13);
     }
-    let room = evaluate::orders(u, n, xs, ys, t, order);
-    outcome::deliver(&room, 2 * (order + 1), out)
+    outcome::deliver(room, 2 * (order + 1), out)
 }
 
-// The point at t, and the unit tangent.
-fn answer_tangent<'a>(
-    n: usize,
-    xs: &'a [f64; 66],
-    ys: &'a [f64; 66],
-    u: &'a [f64; 70],
-    t: f64,
-    out: &mut [f64],
-) -> Refusal
-    requires { ⌜ Accepted (take (n + 4) (now u)) n ⌝ }
-    ensures { λ r. ⌜ outcome r (now (out .exit)) ≡ tangentAnswer (trusting n (now (xs .entry)) (now (ys .entry)) (now (u .entry))) t (now (out .entry)) ⌝ }
+// The point, and the unit tangent, from the orders 0 and 1, as the answer at t.
+fn answer_tangent(room: &[f64; 10], t: f64, out: &mut [f64]) -> Refusal
+    ensures { λ r. ⌜ outcome r (now (out .exit))
+        ≡ answering (tangentRows (unitIn (now (room .entry))) t (now (out .entry))) (unitIn (now (room .entry))) 4 (now (out .entry)) ⌝ }
 {
     if !number::is_finite(t) {
         return refusal::by(12);
     }
-    let room = evaluate::orders(u, n, xs, ys, t, 1);
     let d = P2 {
         x: room[2],
         y: room[3],
@@ -63,13 +44,16 @@ fn answer_tangent<'a>(
 // The point at t and its derivatives up to the order, x and y in turn: 2 * (order + 1) numbers.
 // Corresponds to spline.rs: Curve::eval.
 pub fn evaluate(c: Curve, t: f64, order: usize, out: &mut [f64]) -> Refusal
-    ensures { λ r. ⌜ outcome r (now (out .exit)) ≡ pointAnswer (byRecord c) t order (now (out .entry)) ⌝ }
+    ensures answer { λ r. ⌜ outcome r (now (out .exit)) ≡ pointAnswer (byRecord c) t order (now (out .entry)) ⌝ }
+    ensures hull { λ r. ⌜ InItsHull (byRecord c) t r (now (out .exit)) ⌝ }
+    ensures never { λ r. ⌜ NeverRefused (byRecord c) t order (now (out .entry)) r ⌝ }
 {
     let r = shape::check(c.points, c.knot_count, &c.xs, &c.ys, &c.knots);
     if r.number != 0 {
         return r;
     }
-    answer_point(c.points, &c.xs, &c.ys, &c.knots, t, order, out)
+    let room = evaluate::orders(&c.knots, c.points, &c.xs, &c.ys, t, order);
+    answer_point(&room, t, order, out)
 }
 
 // The same for a curve in slices: control points x, y in turn, and knots.
@@ -80,36 +64,42 @@ pub fn evaluate_slices(
     order: usize,
     out: &mut [f64],
 ) -> Refusal
-    ensures { λ r. ⌜ outcome r (now (out .exit)) ≡ pointAnswer (inSlices (now (coords .entry)) (now (knots .entry))) t order (now (out .entry)) ⌝ }
+    ensures answer { λ r. ⌜ outcome r (now (out .exit))
+        ≡ pointAnswer (inSlices (now (coords .entry)) (now (knots .entry))) t order (now (out .entry)) ⌝ }
+    ensures hull { λ r. ⌜ InItsHull (inSlices (now (coords .entry)) (now (knots .entry))) t r (now (out .exit)) ⌝ }
+    ensures never { λ r. ⌜ NeverRefused (inSlices (now (coords .entry)) (now (knots .entry))) t order (now (out .entry)) r ⌝ }
 {
-    let b = curve::assemble(coords, true, knots);
-    if b.refusal.number != 0 {
-        return b.refusal;
+    let r = shape::check_handles(Form::Control, coords, true, knots);
+    if r.number != 0 {
+        return r;
     }
-    let made = b.curve;
-    answer_point(made.points, &made.xs, &made.ys, &made.knots, t, order, out)
+    let room = evaluate::orders_slices(knots, coords, t, order);
+    answer_point(&room, t, order, out)
 }
 
 // The point at t and the unit tangent: four numbers.
 // Corresponds to spline.rs: point_tangent.
 pub fn point_tangent(c: Curve, t: f64, out: &mut [f64]) -> Refusal
-    ensures { λ r. ⌜ outcome r (now (out .exit)) ≡ tangentAnswer (byRecord c) t (now (out .entry)) ⌝ }
+    ensures answer { λ r. ⌜ outcome r (now (out .exit)) ≡ tangentAnswer (byRecord c) t (now (out .entry)) ⌝ }
+    ensures hull { λ r. ⌜ InItsHull (byRecord c) t r (now (out .exit)) ⌝ }
 {
     let r = shape::check(c.points, c.knot_count, &c.xs, &c.ys, &c.knots);
     if r.number != 0 {
         return r;
     }
-    answer_tangent(c.points, &c.xs, &c.ys, &c.knots, t, out)
+    let room = evaluate::orders(&c.knots, c.points, &c.xs, &c.ys, t, 1);
+    answer_tangent(&room, t, out)
 }
 
 // The same for a curve in slices: control points x, y in turn, and knots.
 pub fn point_tangent_slices(coords: &[f64], knots: &[f64], t: f64, out: &mut [f64]) -> Refusal
-    ensures { λ r. ⌜ outcome r (now (out .exit)) ≡ tangentAnswer (inSlices (now (coords .entry)) (now (knots .entry))) t (now (out .entry)) ⌝ }
+    ensures answer { λ r. ⌜ outcome r (now (out .exit)) ≡ tangentAnswer (inSlices (now (coords .entry)) (now (knots .entry))) t (now (out .entry)) ⌝ }
+    ensures hull { λ r. ⌜ InItsHull (inSlices (now (coords .entry)) (now (knots .entry))) t r (now (out .exit)) ⌝ }
 {
-    let b = curve::assemble(coords, true, knots);
-    if b.refusal.number != 0 {
-        return b.refusal;
+    let r = shape::check_handles(Form::Control, coords, true, knots);
+    if r.number != 0 {
+        return r;
     }
-    let made = b.curve;
-    answer_tangent(made.points, &made.xs, &made.ys, &made.knots, t, out)
+    let room = evaluate::orders_slices(knots, coords, t, 1);
+    answer_tangent(&room, t, out)
 }

@@ -27,7 +27,8 @@ fn sample_pair(room: &mut [f64], at: usize, w0: f64, w1: f64, per: usize)
 // The same where w1 lies above w0, and nothing otherwise. Answers the index after the samples.
 fn sample_rising(room: &mut [f64], at: usize, w0: f64, w1: f64, per: usize) -> usize
     requires { ⌜ at + per ≤ length (now room) ⌝ ∗ ⌜ per ≤ 16 ⌝ }
-    ensures { λ r. ⌜ r ≡ at + length (risingSamples w0 w1 per) ⌝ ∗ ⌜ now (room .exit) ≡ paste (now (room .entry)) at (risingSamples w0 w1 per) (length (risingSamples w0 w1 per)) ⌝ }
+    ensures { λ r. ⌜ r ≡ at + length (risingSamples w0 w1 per) ⌝
+        ∗ ⌜ now (room .exit) ≡ paste (now (room .entry)) at (risingSamples w0 w1 per) (length (risingSamples w0 w1 per)) ⌝ }
 {
     if w1 > w0 {
         sample_pair(room, at, w0, w1, per);
@@ -39,7 +40,8 @@ fn sample_rising(room: &mut [f64], at: usize, w0: f64, w1: f64, per: usize) -> u
 // Puts the samples of each rising pair of knots into room, one pair after the other, and answers how many there are.
 fn sample_pairs<'a>(u: &'a [f64; 70], n: usize, per: usize, room: &mut [f64]) -> usize
     requires { ⌜ n ≤ 66 ⌝ ∗ ⌜ per ≤ 16 ⌝ ∗ ⌜ 1105 ≤ length (now room) ⌝ }
-    ensures { λ r. ⌜ r ≤ 1104 ⌝ ∗ ⌜ r ≡ length (pairsOf n (now (u .entry)) per) ⌝ ∗ ⌜ now (room .exit) ≡ pairsOf n (now (u .entry)) per ++ drop r (now (room .entry)) ⌝ }
+    ensures { λ r. ⌜ r ≤ 1104 ⌝ ∗ ⌜ r ≡ length (pairsOf n (now (u .entry)) per) ⌝
+        ∗ ⌜ now (room .exit) ≡ pairsOf n (now (u .entry)) per ++ drop r (now (room .entry)) ⌝ }
 {
     let mut at = 0;
     let pairs = n + 3;
@@ -110,7 +112,8 @@ pub fn samples_slices(
     out: &mut [f64],
     count: &mut u64,
 ) -> Refusal
-    ensures { λ r. ⌜ counted r (now (out .exit)) (now (count .exit)) ≡ samplesAnswer (inSlices (now (coords .entry)) (now (knots .entry))) per (now (out .entry)) (now (count .entry)) ⌝ }
+    ensures { λ r. ⌜ counted r (now (out .exit)) (now (count .exit))
+        ≡ samplesAnswer (inSlices (now (coords .entry)) (now (knots .entry))) per (now (out .entry)) (now (count .entry)) ⌝ }
 {
     let b = curve::assemble(coords, true, knots);
     if b.refusal.number != 0 {

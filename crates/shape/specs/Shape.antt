@@ -1,11 +1,13 @@
 -- The shape of a curve: its control points and knots. docs/RULES.md, "Record", decides.
+use mathlib.Core.Bool.{cond}
 use mathlib.Core.List.{List}
 use Prim.Native.Nat.{ℕ, _+_, _*_, _/_}
-use lib.ListN.{length, set, replicate}
+use lib.Dec.{ltb}
+use lib.ListN.{length, replicate}
 use lib.Ieee.{Float}
 use Rattle.meaning.specs.Scalar.{plain, zero64}
 use Rattle.meaning.specs.Table.{at1}
-use Rattle.meaning.specs.Loops.{run}
+use Rattle.meaning.specs.Search.{listed}
 use Rattle.buffer.specs.Pasted.{pasted}
 
 -- n control points with their n + 4 knots; what stands past those is not read
@@ -21,9 +23,9 @@ pub record Shape (A : Type 0) : Type 0 where
 abbrev pub pointsIn : List Float → ℕ
 pointsIn coords = length coords / 2
 
--- every second number from `off` on, n of them, in a room of 66
+-- every second number from `off` on, n of them, in a room of 66 that is +0.0 elsewhere
 unfoldable pub everyOther : List Float → ℕ → ℕ → List Float
-everyOther coords n off = run 0 n (λ i l. set l i (at1 plain coords (2 * i + off))) (replicate 66 zero64)
+everyOther coords n off = listed 0 66 (λ i. cond (ltb i n) (at1 plain coords (2 * i + off)) zero64)
 
 -- the knots of n control points in their room of 70
 abbrev pub givenKnots : ℕ → List Float → List Float

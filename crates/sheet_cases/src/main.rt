@@ -3,30 +3,24 @@
 use libc::STDIN_FILENO;
 use libc::STDOUT_FILENO;
 
-// Writes the answer to a sheet.
-fn print_answer(sheet: &[u8]) {
-    let mut out = [0u8; 36876];
-    let mut work = [0.0; 4488];
-    let k = sheet_text::answer(sheet, &mut out, &mut work);
-    io::write_all(STDOUT_FILENO, &out[..k]);
+// Writes the answer to the sheet that the first n bytes of the room are.
+fn print_answer(room: [u8; 20878], n: usize) {
+    let r = sheet_rooms::reply(room, n);
+    let bytes = r.bytes;
+    io::write_all(STDOUT_FILENO, &bytes[..r.count]);
 }
 
-// Reads a sheet that fills the room, and writes its answer. False where the input ends before.
-fn fill_and_print(room: &mut [u8]) -> bool {
-    if io::read_full(STDIN_FILENO, room) != room.len() {
-        return false;
-    }
-    print_answer(room);
-    true
-}
-
-// The same for a sheet of n bytes. False too where there is no room for it.
+// Reads a sheet of n bytes and writes its answer. False where there is no room for it, or the input ends before.
 fn print_read(n: usize) -> bool {
     let mut room = [0u8; 20878];
     if n > 20878 {
         return false;
     }
-    fill_and_print(&mut room[..n])
+    if io::read_full(STDIN_FILENO, &mut room[..n]) != n {
+        return false;
+    }
+    print_answer(room, n);
+    true
 }
 
 // Writes the number of a sheet.

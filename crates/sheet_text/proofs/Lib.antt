@@ -4,4 +4,4 @@ pub mod Putting
 pub mod Lines
 pub mod Sheets
 pub mod Decimals
-pub mod Works
+pub mod Promises

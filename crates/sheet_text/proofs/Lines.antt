@@ -41,7 +41,7 @@ line-short c t =
 -- ---- one line after the other
 
 module _ (c : Curve) where
-  lines-append : (a b : List Float) → linesText c (a ++ b) ≡ linesText c a ++ linesText c b
+  pub lines-append : (a b : List Float) → linesText c (a ++ b) ≡ linesText c a ++ linesText c b
   unfolding linesText
   lines-append [] b = refl
   lines-append (t ∷ a) b = ap (λ (l : List ℕ). lineText c t ++ l) (lines-append a b) ∙ sym (append-assoc (lineText c t) (linesText c a) (linesText c b))

@@ -1,36 +1,22 @@
 -- Texts put into a slice one after the other. Assumes nothing.
 use mathlib.Core.Path.{_≡_, refl, sym, ap, _∙_}
-use mathlib.Core.List.{List, [], _∷_, _++_, append-assoc}
+use mathlib.Core.List.{List, [], _∷_, _++_}
 use Prim.Native.Nat.{ℕ, _+_, _-_, _*_, _/_, _%_, _^_, _≤_, _<_}
-use native.Mathlib.Nat.{add-zero, add-assoc, le-refl}
+use native.Mathlib.Nat.{add-zero, add-assoc}
 use native.Mathlib.Omega.{arith}
 use borrow.Author.Tests.{ltb-true, ltb-false, lt-ltb, le-ltb}
 use lib.Dec.{ltb}
 use lib.Ieee.{Float, binary64, toBits}
-use lib.ListN.{length, take, drop, length-append}
-use lib.Seq.{paste, paste-zero, take-paste, drop-paste, take-length, drop-drop}
+use lib.ListN.{length, length-append}
+use lib.Seq.{paste, paste-zero}
 use Rattle.meaning.proofs.Tests.{by-two}
 use Rattle.meaning.proofs.Filling.{length-listed}
+use Rattle.meaning.proofs.Pasting.{twice}
 use Rattle.sheet_read.specs.Text.{text}
 use Rattle.sheet_read.specs.Number.{glyph}
 use Rattle.refusal.specs.declared.Refusal.{Refusal}
 use Rattle.sheet_text.specs.Printed.{hexText, decimalText, doubleText, refusalText, headText, pointText}
 use Rattle.sheet_text.specs.Put.{Put}
-
--- two texts, each in its place
-twice : (out t u : List ℕ) (at : ℕ) → at ≤ length out
-    → paste (paste out at t (length t)) (at + length t) u (length u) ≡ paste out at (t ++ u) (length (t ++ u))
-twice out t u at h =
-    let front : take (at + length t) (paste out at t (length t)) ≡ take at out ++ t =
-    take-paste out at t (length t) h (le-refl (length t)) ∙ ap (λ (l : List ℕ). take at out ++ l) (take-length t) in
-    let back : drop (at + length t + length u) (paste out at t (length t)) ≡ drop (at + length t + length u) out =
-    sym (drop-drop (length u) (at + length t) (paste out at t (length t)))
-    ∙ ap (drop (length u)) (drop-paste out at t (length t) h (le-refl (length t)))
-    ∙ drop-drop (length u) (at + length t) out in
-    let all : at + length t + length u ≡ at + length (t ++ u) = add-assoc at (length t) (length u) ∙ ap (λ (n : ℕ). at + n) (sym (length-append t u)) in
-    let whole : (take at out ++ t) ++ u ≡ take at out ++ take (length (t ++ u)) (t ++ u) =
-    append-assoc (take at out) t u ∙ ap (λ (l : List ℕ). take at out ++ l) (sym (take-length (t ++ u))) in
-    (λ i. (front i ++ take-length u i) ++ back i) ∙ (λ i. whole i ++ drop (all i) out)
 
 module _ {out : List ℕ} {at : ℕ} where
   -- nothing is put in

@@ -1,5 +1,5 @@
 -- From the build of a sheet to its answer. Assumes nothing.
-use mathlib.Core.Path.{_≡_, sym, ap, _∙_}
+use mathlib.Core.Path.{_≡_, sym, ap, _∙_, subst}
 use mathlib.Core.Bool.{true, false}
 use mathlib.Core.List.{List}
 use Prim.Native.Nat.{ℕ, _≤_, _<_}
@@ -22,6 +22,7 @@ use Rattle.sheet_text.specs.Printed.{refusalText}
 use Rattle.sheet_text.specs.Put.{Put}
 use Rattle.sheet_text.specs.Curves.{builtText}
 use Rattle.sheet_text.specs.Answer.{pointsOf, knotsOf, givenOf, parametersOf, sheetBuild, sheetText, sheetWork, answerText, answerWork, tooShort, Answered}
+use Rattle.sheet_text.specs.Promise.{BuiltPromise, ReadPromise}
 use Rattle.sheet_text.proofs.Front.{numbers-long}
 use Rattle.sheet_text.proofs.Putting.{refusal-short}
 use Rattle.sheet_text.proofs.Lines.{built-short}
@@ -39,6 +40,9 @@ module _ (s : List ℕ) (x : Sheet) (work : List Float) {p k : List Float} {b : 
 
   pub work-built : work′ ≡ sheetWork s x work
   work-built = ap (λ (m : Making). m .work) of-sheet
+
+  pub promise-built : BuiltPromise b (parametersOf s x) (x .parameters .count) → ReadPromise s x work
+  promise-built h = subst (λ (m : Making). BuiltPromise (m .built) (parametersOf s x) (x .parameters .count)) of-sheet h
 
 -- ---- the door
 

@@ -3,3 +3,4 @@ pub mod Printed
 pub mod Curves
 pub mod Answer
 pub mod Put
+pub mod Promise

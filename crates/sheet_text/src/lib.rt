@@ -1,5 +1,6 @@
 // A sheet's answer: the lines that are printed of it, put into a lent slice of bytes.
 ghost use mathlib.Core.Path.{_≡_};
+ghost use mathlib.Core.Bool.{false};
 ghost use mathlib.Core.List.{_++_};
 ghost use Prim.Native.Nat.{_+_, _*_, _≤_, _<_};
 ghost use lib.ListN.{length, take};
@@ -10,7 +11,8 @@ ghost use Rattle.sheet_read.proofs.Sections.{Limits};
 ghost use Rattle.sheet_text.specs.Printed.{hexText, decimalText, doubleText, refusalText, headText, pointText};
 ghost use Rattle.sheet_text.specs.Put.{Put};
 ghost use Rattle.sheet_text.specs.Curves.{lineText, linesText, builtText};
-ghost use Rattle.sheet_text.specs.Answer.{sheetText, sheetWork, Answered};
+ghost use Rattle.sheet_text.specs.Answer.{sheetText, sheetWork, tooShort, Answered};
+ghost use Rattle.sheet_text.specs.Promise.{LinePromise, LinePromises, BuiltPromise, ReadPromise, SheetPromise};
 use curve::Built;
 use curve::Curve;
 use refusal::Refusal;
@@ -129,7 +131,8 @@ fn put_point(out: &mut [u8], at: usize, x: f64, y: f64) -> usize
 // The line of the parameter t.
 fn put_line(out: &mut [u8], at: usize, c: Curve, t: f64) -> usize
     requires { ⌜ at + 36 ≤ length (now out) ⌝ }
-    ensures { λ r. ⌜ Put (now (out .entry)) at (lineText c t) (now (out .exit)) r ⌝ }
+    ensures line { λ r. ⌜ Put (now (out .entry)) at (lineText c t) (now (out .exit)) r ⌝ }
+    ensures hull { λ _. ⌜ LinePromise c t ⌝ }
 {
     let mut xy = [0.0; 2];
     let r = point::evaluate(c, t, 0, &mut xy);
@@ -142,7 +145,8 @@ fn put_line(out: &mut [u8], at: usize, c: Curve, t: f64) -> usize
 // The lines of the n parameters that stand in s from `start` on.
 fn put_lines(out: &mut [u8], at: usize, c: Curve, s: &[u8], start: usize, n: usize) -> usize
     requires { ⌜ (n ≤ 1024) × (start ≤ 5000) ⌝ ∗ ⌜ at + 36 * n ≤ length (now out) ⌝ }
-    ensures { λ r. ⌜ Put (now (out .entry)) at (linesText c (numbersAt (now (s .entry)) start n)) (now (out .exit)) r ⌝ }
+    ensures lines { λ r. ⌜ Put (now (out .entry)) at (linesText c (numbersAt (now (s .entry)) start n)) (now (out .exit)) r ⌝ }
+    ensures hull { λ _. ⌜ LinePromises c (numbersAt (now (s .entry)) start n) n ⌝ }
 {
     let mut next = at;
     for j in 0..n {
@@ -154,7 +158,8 @@ fn put_lines(out: &mut [u8], at: usize, c: Curve, s: &[u8], start: usize, n: usi
 // What is printed of a build at the n parameters that stand in s from `start` on.
 fn put_built(out: &mut [u8], b: Built, s: &[u8], start: usize, n: usize) -> usize
     requires { ⌜ (n ≤ 1024) × (start ≤ 5000) ⌝ ∗ ⌜ 12 + 36 * n ≤ length (now out) ⌝ }
-    ensures { λ r. ⌜ Put (now (out .entry)) 0 (builtText b (numbersAt (now (s .entry)) start n)) (now (out .exit)) r ⌝ }
+    ensures text { λ r. ⌜ Put (now (out .entry)) 0 (builtText b (numbersAt (now (s .entry)) start n)) (now (out .exit)) r ⌝ }
+    ensures hull { λ _. ⌜ BuiltPromise b (numbersAt (now (s .entry)) start n) n ⌝ }
 {
     let refusal = b.refusal;
     if refusal.number != 0 {
@@ -180,8 +185,9 @@ fn take_numbers(s: &[u8], start: usize, n: usize, out: &mut [f64])
 // The answer to the sheet x, which s is the text of.
 fn answer_sheet(s: &[u8], x: Sheet, out: &mut [u8], work: &mut [f64]) -> usize
     requires { ⌜ Limits x ⌝ ∗ ⌜ 36876 ≤ length (now out) ⌝ }
-    ensures { λ r. ⌜ Put (now (out .entry)) 0 (sheetText (now (s .entry)) x (now (work .entry))) (now (out .exit)) r ⌝ }
-    ensures { λ _. ⌜ now (work .exit) ≡ sheetWork (now (s .entry)) x (now (work .entry)) ⌝ }
+    ensures text { λ r. ⌜ Put (now (out .entry)) 0 (sheetText (now (s .entry)) x (now (work .entry))) (now (out .exit)) r ⌝ }
+    ensures work { λ _. ⌜ now (work .exit) ≡ sheetWork (now (s .entry)) x (now (work .entry)) ⌝ }
+    ensures hull { λ _. ⌜ ReadPromise (now (s .entry)) x (now (work .entry)) ⌝ }
 {
     let n = 2 * x.points.count;
     let k = x.knots.count;
@@ -197,7 +203,8 @@ fn answer_sheet(s: &[u8], x: Sheet, out: &mut [u8], work: &mut [f64]) -> usize
 // Puts the answer to the text s at the front of out, and answers how many bytes it has. A fit needs work of m² + 2m doubles for m control points.
 // Where out has not room for the longest answer, 36,876 bytes, nothing is done and 0 answered.
 pub fn answer(s: &[u8], out: &mut [u8], work: &mut [f64]) -> usize
-    ensures { λ r. ⌜ Answered (now (s .entry)) (now (out .entry)) (now (work .entry)) r (now (out .exit)) (now (work .exit)) ⌝ }
+    ensures answer { λ r. ⌜ Answered (now (s .entry)) (now (out .entry)) (now (work .entry)) r (now (out .exit)) (now (work .exit)) ⌝ }
+    ensures hull { λ _. ⌜ (tooShort (now (out .entry)) ≡ false → SheetPromise (now (s .entry)) (now (work .entry))) ⌝ }
 {
     if out.len() < 36876 {
         return 0;

@@ -10,7 +10,7 @@ use lib.Ieee.{Float, fin, sub, mul, div, lt, le, eq, ne, neg, ofBits}
 use Rattle.meaning.specs.Scalar.{plain}
 use Rattle.meaning.specs.Number.{smaller}
 use Rattle.solve.specs.Rows.{flat}
-use Rattle.solve.specs.Substitution.{solvedOk}
+use Rattle.solve.specs.Stored.{solvedOk}
 use Rattle.solve.specs.Buffer.{solveOf}
 
 -- a whole number that is not negative, and one that is not positive

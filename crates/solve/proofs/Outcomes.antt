@@ -9,7 +9,8 @@ use borrow.Author.Tests.{le-leb}
 use Rattle.meaning.specs.Scalar.{Ops, plain, zero64}
 use Rattle.meaning.specs.Table.{at1, at2}
 use Rattle.solve.specs.Rows.{flat, Shaped}
-use Rattle.solve.specs.Substitution.{solved, solvedOk}
+use Rattle.solve.specs.Substitution.{solved}
+use Rattle.solve.specs.Stored.{solvedOk}
 use Rattle.solve.specs.Outcome.{zeros, column, noSolution, solutionOf, fits, workOf}
 use Rattle.solve.specs.Buffer.{solveOf}
 use Rattle.solve.proofs.Flat.{rows-of-flat, rest-of}

@@ -1,24 +1,25 @@
 -- What a turn of each of the elimination's loops makes of the rows, over any scalar. Assumes nothing.
 use mathlib.Core.Path.{_≡_, refl, sym, ap, _∙_}
-use mathlib.Core.Bool.{Bool, true, false, cond}
+use mathlib.Core.Bool.{true}
 use mathlib.Core.List.{List, []}
-use Prim.Native.Nat.{ℕ, zero, suc, _+_, _-_, _≤_, _<_}
+use Prim.Native.Nat.{ℕ, _+_, _≤_, _<_}
 use native.Mathlib.Omega.{arith}
 use lib.ListN.{length, getD, set}
 use lib.Dec.{leb, ltb}
 use lib.Ieee.{eq}
 use borrow.Author.Tests.{lt-ltb, le-ltb, le-leb, lt-leb}
 use Rattle.meaning.specs.Scalar.{Ops, zero64}
-use Rattle.meaning.specs.Number.{atLeast}
-use Rattle.meaning.specs.Loops.{turns}
-use Rattle.meaning.specs.Table.{at1, at2}
+use Rattle.meaning.specs.Table.{at1}
 use Rattle.meaning.specs.Search.{every}
 use Rattle.solve.specs.Rows.{Shaped}
-use Rattle.solve.specs.Elimination.{better, bestAmong, lessBy, lessAt, subtracted, fineAt, reduced, reducedOk, rowAfter, reducedRows, rowFine, pivot, pivoted, columnDone, eliminated}
+use Rattle.solve.specs.Pivot.{pivot}
+use Rattle.solve.specs.Elimination.{lessBy, lessAt, subtracted, reduced, rowAfter, reducedRows, pivoted, columnDone, eliminated}
+use Rattle.solve.specs.Verdicts.{fineAt, reducedOk, rowFine}
 use Rattle.meaning.proofs.Filling.{length-listed, nth-listed}
 use Rattle.meaning.proofs.Every.{all}
 use Rattle.solve.proofs.Lists.{blend, blend-next, blend-start, blend-get, length-cond, turns-next, turns-keep}
 use Rattle.solve.proofs.Flat.{swapped-shaped}
+use Rattle.solve.proofs.Pivots.{pivot-lt}
 
 -- ---- a row t less f times the row p
 module _ {A : Type 0} (o : Ops A) (n col : ℕ) (f : A) (p t : List A) where
@@ -112,57 +113,25 @@ module _ {A : Type 0} (o : Ops A) (n col : ℕ) (p : List A) where
     }
 
 -- ---- the columns
-cond-le : (b : Bool) (x y n : ℕ) → x ≤ n → y ≤ n → cond b x y ≤ n
-cond-le true x y n h g = h
-cond-le false x y n h g = g
+module _ {A : Type 0} (o : Ops A) (m : ℕ) where
+  pub pivoted-shaped : (s col : ℕ) (M : List (List A)) → col < m → Shaped m s M → Shaped m s (pivoted o m col M)
+  unfolding pivoted
+  pivoted-shaped s col M h sh = swapped-shaped M m s col (pivot o m col M) h (pivot-lt o m col M h) sh
 
-cond-ge : (b : Bool) (x y n : ℕ) → n ≤ x → n ≤ y → n ≤ cond b x y
-cond-ge true x y n h g = h
-cond-ge false x y n h g = g
+  pub column-shaped : (s col : ℕ) (M : List (List A)) → col < m → Shaped m s M → Shaped m s (columnDone o m col M)
+  unfolding columnDone
+  column-shaped s col M h sh =
+      let N = pivoted o m col M in
+      rows-shaped o m col (getD N col []) m N s (pivoted-shaped s col M h sh)
 
-module _ {A : Type 0} (o : Ops A) where
-  best-le : (M : List (List A)) (k lo n : ℕ) → turns (lo + 1) n (better o M k) lo ≤ lo + n
-  unfolding turns
-  best-le M k lo zero = omega arith
-  best-le M k lo (suc n) =
-      let old = best-le M k lo n in
-      let best = turns (lo + 1) n (better o M k) lo in
-      cond-le (atLeast (o .val (at2 o M (lo + 1 + n) k)) (o .val (at2 o M best k))) (lo + 1 + n) best (lo + suc n) (omega arith) (omega arith)
+  pub eliminated-none : (M : List (List A)) → eliminated o m 0 M ≡ M
+  unfolding eliminated
+  eliminated-none M = refl
 
-  best-ge : (M : List (List A)) (k lo n : ℕ) → lo ≤ turns (lo + 1) n (better o M k) lo
-  unfolding turns
-  best-ge M k lo zero = omega arith
-  best-ge M k lo (suc n) =
-      let best = turns (lo + 1) n (better o M k) lo in
-      cond-ge (atLeast (o .val (at2 o M (lo + 1 + n) k)) (o .val (at2 o M best k))) (lo + 1 + n) best lo (omega arith) (best-ge M k lo n)
+  pub eliminated-next : (n : ℕ) (M : List (List A)) → eliminated o m (n + 1) M ≡ columnDone o m n (eliminated o m n M)
+  unfolding eliminated
+  eliminated-next n M = turns-next (columnDone o m) n M
 
-  module _ (m : ℕ) where
-    pub pivot-ge : (col : ℕ) (M : List (List A)) → col ≤ pivot o m col M
-    unfolding pivot bestAmong
-    pivot-ge col M = best-ge M col col (m - 1 - col)
-
-    pub pivot-lt : (col : ℕ) (M : List (List A)) → col < m → pivot o m col M < m
-    unfolding pivot bestAmong
-    pivot-lt col M h = omega (arith, best-le M col col (m - 1 - col))
-
-    pub pivoted-shaped : (s col : ℕ) (M : List (List A)) → col < m → Shaped m s M → Shaped m s (pivoted o m col M)
-    unfolding pivoted
-    pivoted-shaped s col M h sh = swapped-shaped M m s col (pivot o m col M) h (pivot-lt col M h) sh
-
-    pub column-shaped : (s col : ℕ) (M : List (List A)) → col < m → Shaped m s M → Shaped m s (columnDone o m col M)
-    unfolding columnDone
-    column-shaped s col M h sh =
-        let N = pivoted o m col M in
-        rows-shaped o m col (getD N col []) m N s (pivoted-shaped s col M h sh)
-
-    pub eliminated-none : (M : List (List A)) → eliminated o m 0 M ≡ M
-    unfolding eliminated
-    eliminated-none M = refl
-
-    pub eliminated-next : (n : ℕ) (M : List (List A)) → eliminated o m (n + 1) M ≡ columnDone o m n (eliminated o m n M)
-    unfolding eliminated
-    eliminated-next n M = turns-next (columnDone o m) n M
-
-    pub eliminated-shaped : (s n : ℕ) (M : List (List A)) → n ≤ m → Shaped m s M → Shaped m s (eliminated o m n M)
-    unfolding eliminated
-    eliminated-shaped s n M h sh = turns-keep (columnDone o m) (Shaped m s) m n M (λ k N l. column-shaped s k N l) h sh
+  pub eliminated-shaped : (s n : ℕ) (M : List (List A)) → n ≤ m → Shaped m s M → Shaped m s (eliminated o m n M)
+  unfolding eliminated
+  eliminated-shaped s n M h sh = turns-keep (columnDone o m) (Shaped m s) m n M (λ k N l. column-shaped s k N l) h sh

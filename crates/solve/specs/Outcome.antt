@@ -9,7 +9,8 @@ use lib.Ieee.{Float}
 use Rattle.meaning.specs.Scalar.{Ops, zero64}
 use Rattle.meaning.specs.Table.{at2}
 use Rattle.meaning.specs.Search.{listed}
-use Rattle.solve.specs.Substitution.{solved, solvedOk}
+use Rattle.solve.specs.Substitution.{solved}
+use Rattle.solve.specs.Stored.{solvedOk}
 
 -- the two coordinates of the control points, 66 of each, and whether every number stored on the way was finite
 pub record Solution (A : Type 0) : Type 0 where

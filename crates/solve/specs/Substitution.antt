@@ -1,14 +1,12 @@
 -- Back substitution on a list of rows, over any scalar: a row's two right sides give way to its answers, from the last row up. docs/RULES.md,
--- "Solve", decides, and the original's operation order. Beside each definition stands its verdict: the answers are finite.
-use mathlib.Core.Bool.{Bool, _&&_}
+-- "Solve", decides, and the original's operation order.
 use mathlib.Core.List.{List, []}
 use Prim.Native.Nat.{ℕ, _+_, _-_}
 use lib.ListN.{getD, set}
 use Rattle.meaning.specs.Scalar.{Ops, one64}
 use Rattle.meaning.specs.Loops.{turns}
 use Rattle.meaning.specs.Table.{at2}
-use Rattle.meaning.specs.Search.{every}
-use Rattle.solve.specs.Elimination.{eliminated, eliminatedOk}
+use Rattle.solve.specs.Elimination.{eliminated}
 
 module _ {A : Type 0} (o : Ops A) where
   -- x less the term of the row i + 1 below row r, whose answer stands at c. Row r's own number stands at d, and the factors after it.
@@ -29,31 +27,16 @@ module _ {A : Type 0} (o : Ops A) where
   unfolding answer
   answered k M r d n = set M r (set (set (getD M r []) k (answer M r k d n)) (k + 1) (answer M r (k + 1) d n))
 
-  unfoldable pub answeredOk : ℕ → List (List A) → ℕ → ℕ → ℕ → Bool
-  unfolding answer
-  answeredOk k M r d n = o .fine (answer M r k d n) && o .fine (answer M r (k + 1) d n)
-
   -- of m rows of m matrix numbers the row with i rows below it, answered
   abbrev pub answeredUp : ℕ → ℕ → List (List A) → List (List A)
   answeredUp m i M = answered m M (m - 1 - i) (m - 1 - i) i
-
-  abbrev pub answeredUpOk : ℕ → ℕ → List (List A) → Bool
-  answeredUpOk m i M = answeredOk m M (m - 1 - i) (m - 1 - i) i
 
   -- the last n rows answered
   unfoldable pub backed : ℕ → ℕ → List (List A) → List (List A)
   unfolding turns answered
   backed m n M = turns 0 n (answeredUp m) M
 
-  unfoldable pub backedOk : ℕ → ℕ → List (List A) → Bool
-  unfolding every answeredOk backed
-  backedOk m n M = every n (λ i. answeredUpOk m i (backed m i M))
-
   -- the whole solve of m rows of m matrix numbers and two right sides, which are the answers afterwards
   unfoldable pub solved : ℕ → List (List A) → List (List A)
   unfolding eliminated backed
   solved m M = backed m m (eliminated o m m M)
-
-  unfoldable pub solvedOk : ℕ → List (List A) → Bool
-  unfolding eliminatedOk eliminated backedOk
-  solvedOk m M = eliminatedOk o m m M && backedOk m m (eliminated o m m M)

@@ -4,15 +4,18 @@ ghost use mathlib.Core.Path.{_≡_};
 ghost use Prim.Native.Nat.{_+_, _*_, _<_, _≤_};
 ghost use lib.ListN.{length};
 ghost use Rattle.meaning.specs.Scalar.{plain};
-ghost use Rattle.solve.specs.Rows.{flat, ofRows};
-ghost use Rattle.solve.specs.Elimination.{reducedRows, reducedRowsOk, columnDone, columnOk, eliminated, eliminatedOk};
-ghost use Rattle.solve.specs.Substitution.{backed, backedOk, solved, solvedOk};
+ghost use Rattle.solve.specs.Left.{RowsBecome};
+ghost use Rattle.solve.specs.Elimination.{reducedRows, columnDone, eliminated};
+ghost use Rattle.solve.specs.Substitution.{backed, solved};
+ghost use Rattle.solve.specs.Stored.{solvedOk};
+ghost use Rattle.solve.specs.Verdicts.{reducedRowsOk, columnOk, eliminatedOk, backedOk};
 use crate::work;
 
 // The rows below row col, reduced by the pivot row p.
 fn reduce_rows(w: &mut [f64], p: &[f64], m: usize, n: usize, s: usize, col: usize) -> bool
     requires { ⌜ (col < m) × (col < s) × (m * s ≤ length (now w)) × (length (now p) ≡ s) ⌝ }
-    ensures { λ q. ⌜ ofRows m s (now (w .entry)) (λ M rest. (now (w .exit) ≡ flat (reducedRows plain m n col (now (p .entry)) M) rest) × (q ≡ reducedRowsOk plain m n col (now (p .entry)) M)) ⌝ }
+    ensures { λ q. ⌜ RowsBecome m s (reducedRows plain m n col (now (p .entry))) (reducedRowsOk plain m n col (now (p .entry)))
+        (now (w .entry)) (now (w .exit)) q ⌝ }
 {
     let mut fine = true;
     let first = col + 1;
@@ -25,7 +28,7 @@ fn reduce_rows(w: &mut [f64], p: &[f64], m: usize, n: usize, s: usize, col: usiz
 // Column col's whole step: the pivot row, the exchange, and the rows below reduced.
 fn eliminate_column(w: &mut [f64], m: usize, s: usize, col: usize) -> bool
     requires { ⌜ (col < m) × (m ≤ s) × (s ≤ 68) × (m * s ≤ length (now w)) ⌝ }
-    ensures { λ q. ⌜ ofRows m s (now (w .entry)) (λ M rest. (now (w .exit) ≡ flat (columnDone plain m col M) rest) × (q ≡ columnOk plain m col M)) ⌝ }
+    ensures { λ q. ⌜ RowsBecome m s (columnDone plain m col) (columnOk plain m col) (now (w .entry)) (now (w .exit)) q ⌝ }
 {
     let best = work::find_pivot(w, m, s, col, col, m - 1 - col);
     work::swap_rows(w, m, s, col, best);
@@ -36,7 +39,7 @@ fn eliminate_column(w: &mut [f64], m: usize, s: usize, col: usize) -> bool
 // Every column, in rising order.
 fn eliminate(w: &mut [f64], m: usize, s: usize) -> bool
     requires { ⌜ (m ≤ s) × (s ≤ 68) × (m * s ≤ length (now w)) ⌝ }
-    ensures { λ q. ⌜ ofRows m s (now (w .entry)) (λ M rest. (now (w .exit) ≡ flat (eliminated plain m m M) rest) × (q ≡ eliminatedOk plain m m M)) ⌝ }
+    ensures { λ q. ⌜ RowsBecome m s (eliminated plain m m) (eliminatedOk plain m m) (now (w .entry)) (now (w .exit)) q ⌝ }
 {
     let mut fine = true;
     for col in 0..m {
@@ -48,7 +51,7 @@ fn eliminate(w: &mut [f64], m: usize, s: usize) -> bool
 // Every row answered, from the last one up.
 fn substitute(w: &mut [f64], m: usize, s: usize) -> bool
     requires { ⌜ (s ≡ m + 2) × (m * s ≤ length (now w)) ⌝ }
-    ensures { λ q. ⌜ ofRows m s (now (w .entry)) (λ M rest. (now (w .exit) ≡ flat (backed plain m m M) rest) × (q ≡ backedOk plain m m M)) ⌝ }
+    ensures { λ q. ⌜ RowsBecome m s (backed plain m m) (backedOk plain m m) (now (w .entry)) (now (w .exit)) q ⌝ }
 {
     let mut fine = true;
     for i in 0..m {
@@ -61,7 +64,7 @@ fn substitute(w: &mut [f64], m: usize, s: usize) -> bool
 // The rows solved: their right sides are the answers.
 pub(crate) fn solve_rows(w: &mut [f64], m: usize) -> bool
     requires { ⌜ (m ≤ 66) × (m * (m + 2) ≤ length (now w)) ⌝ }
-    ensures { λ q. ⌜ ofRows m (m + 2) (now (w .entry)) (λ M rest. (now (w .exit) ≡ flat (solved plain m M) rest) × (q ≡ solvedOk plain m M)) ⌝ }
+    ensures { λ q. ⌜ RowsBecome m (m + 2) (solved plain m) (solvedOk plain m) (now (w .entry)) (now (w .exit)) q ⌝ }
 {
     let s = m + 2;
     let first = eliminate(w, m, s);

@@ -34,7 +34,8 @@ fn unsolved() -> Solved
 // The answers of the m rows that lie at the front of w; their room is cleared.
 fn solve_lent(w: &mut [f64], m: usize) -> Solved
     requires { ⌜ (m ≤ 66) × (m * (m + 2) ≤ length (now w)) ⌝ }
-    ensures { λ r. ⌜ ofRows m (m + 2) (now (w .entry)) (λ M rest. (view r ≡ solutionOf plain m M) × (now (w .exit) ≡ replicate (m * (m + 2)) zero64 ++ rest)) ⌝ }
+    ensures { λ r. ⌜ ofRows m (m + 2) (now (w .entry)) (λ M rest.
+        (view r ≡ solutionOf plain m M) × (now (w .exit) ≡ replicate (m * (m + 2)) zero64 ++ rest)) ⌝ }
 {
     let s = m + 2;
     let room = m * s;

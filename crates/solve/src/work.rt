@@ -6,8 +6,11 @@ ghost use Prim.Native.Nat.{_+_, _*_, _<_, _≤_};
 ghost use lib.ListN.{length, take, drop, getD, set, replicate};
 ghost use Rattle.meaning.specs.Scalar.{plain, zero64};
 ghost use Rattle.solve.specs.Rows.{flat, ofRows};
-ghost use Rattle.solve.specs.Elimination.{exchanged, bestAmong, lessBy, subtracted, subtractedOk, reduced, reducedOk};
-ghost use Rattle.solve.specs.Substitution.{remains, answered, answeredOk};
+ghost use Rattle.solve.specs.Left.{Becomes, RowsBecome, RowBecomes};
+ghost use Rattle.solve.specs.Best.{bestAmong};
+ghost use Rattle.solve.specs.Elimination.{exchanged, lessBy, subtracted, reduced};
+ghost use Rattle.solve.specs.Substitution.{remains, answered};
+ghost use Rattle.solve.specs.Verdicts.{subtractedOk, reducedOk, answeredOk};
 ghost use Rattle.solve.specs.Outcome.{column, zeros};
 
 // A row, copied out.
@@ -102,7 +105,7 @@ fn less_by(matrix: bool, f: f64, x: f64, y: f64) -> f64
 // costs a processor less than its opposite.
 fn subtract_row(t: &mut [f64], p: &[f64], n: usize, col: usize, f: f64) -> bool
     requires { ⌜ (col ≤ length (now t)) × (length (now p) ≡ length (now t)) ⌝ }
-    ensures { λ q. ⌜ (now (t .exit) ≡ subtracted plain n col f (now (p .entry)) (now (t .entry))) × (q ≡ subtractedOk plain n col f (now (p .entry)) (now (t .entry))) ⌝ }
+    ensures { λ q. ⌜ Becomes (subtracted plain n col f (now (p .entry))) (subtractedOk plain n col f (now (p .entry))) (now (t .entry)) (now (t .exit)) q ⌝ }
 {
     let mut spoilt = false;
     let end = p.len();
@@ -118,7 +121,7 @@ fn subtract_row(t: &mut [f64], p: &[f64], n: usize, col: usize, f: f64) -> bool
 // Answers whether the multiplier and every number stored are finite.
 pub(crate) fn reduce_row(t: &mut [f64], p: &[f64], n: usize, col: usize) -> bool
     requires { ⌜ (col < length (now t)) × (length (now p) ≡ length (now t)) ⌝ }
-    ensures { λ q. ⌜ (now (t .exit) ≡ reduced plain n col (now (p .entry)) (now (t .entry))) × (q ≡ reducedOk plain n col (now (p .entry)) (now (t .entry))) ⌝ }
+    ensures { λ q. ⌜ Becomes (reduced plain n col (now (p .entry))) (reducedOk plain n col (now (p .entry))) (now (t .entry)) (now (t .exit)) q ⌝ }
 {
     let x = t[col];
     if x == 0.0 {
@@ -140,7 +143,7 @@ pub(crate) fn reduce_at(
     r: usize,
 ) -> bool
     requires { ⌜ (r < m) × (col < s) × (m * s ≤ length (now w)) × (length (now p) ≡ s) ⌝ }
-    ensures { λ q. ⌜ ofRows m s (now (w .entry)) (λ M rest. (now (w .exit) ≡ flat (set M r (reduced plain n col (now (p .entry)) (getD M r []))) rest) × (q ≡ reducedOk plain n col (now (p .entry)) (getD M r []))) ⌝ }
+    ensures { λ q. ⌜ RowBecomes m s r (reduced plain n col (now (p .entry))) (reducedOk plain n col (now (p .entry))) (now (w .entry)) (now (w .exit)) q ⌝ }
 {
     let a = r * s;
     let e = a + s;
@@ -171,7 +174,7 @@ pub(crate) fn answer_row(
     k: usize,
 ) -> bool
     requires { ⌜ (r + k < m) × (d + k < s) × (n + 2 ≤ s) × (m * s ≤ length (now w)) ⌝ }
-    ensures { λ q. ⌜ ofRows m s (now (w .entry)) (λ M rest. (now (w .exit) ≡ flat (answered plain n M r d k) rest) × (q ≡ answeredOk plain n M r d k)) ⌝ }
+    ensures { λ q. ⌜ RowsBecome m s (λ M. answered plain n M r d k) (λ M. answeredOk plain n M r d k) (now (w .entry)) (now (w .exit)) q ⌝ }
 {
     let base = r * s;
     let inv = 1.0 / w[base + d];

@@ -1,7 +1,7 @@
 -- A pivot that compares equal to 0 is refused: its row stays as it is to the end, and the answers of that row are products with 1 over it, which is not finite.
 -- Assumes nothing.
 use mathlib.Core.Path.{_≡_, refl, sym, ap, _∙_}
-use mathlib.Core.Bool.{true, false}
+use mathlib.Core.Bool.{true, false, _&&_}
 use mathlib.Core.List.{List, []}
 use mathlib.Core.Logic.{inl, inr, ⊎-elim}
 use Prim.Native.Nat.{ℕ, zero, suc, _+_, _-_, _≤_, _<_}
@@ -15,13 +15,18 @@ use lib.Ieee.Scale.{finite}
 use Rattle.meaning.specs.Scalar.{Ops, plain, zero64, one64}
 use Rattle.meaning.specs.Table.{at2}
 use Rattle.solve.specs.Rows.{Shaped}
-use Rattle.solve.specs.Elimination.{pivot, pivoted, columnDone, columnOk, eliminated, eliminatedOk}
-use Rattle.solve.specs.Substitution.{remains, answer, answered, answeredUp, answeredOk, answeredUpOk, backed, backedOk, solvedOk}
+use Rattle.solve.specs.Pivot.{pivot}
+use Rattle.solve.specs.Elimination.{pivoted, columnDone, eliminated}
+use Rattle.solve.specs.Substitution.{remains, answer, answered, answeredUp, backed}
+use Rattle.solve.specs.Stored.{solvedOk}
+use Rattle.solve.specs.Verdicts.{columnOk, eliminatedOk, answeredOk, answeredUpOk, backedOk}
 use Rattle.meaning.proofs.Tests.{no, refuted, and-left, and-right}
 use Rattle.meaning.proofs.Every.{each}
 use Rattle.solve.proofs.Lists.{turns-keep}
 use Rattle.solve.proofs.Flat.{same, swapped-first, swapped-other}
-use Rattle.solve.proofs.Steps.{rows-at, row-above, pivot-ge, pivot-lt, eliminated-next, eliminated-shaped}
+use Rattle.solve.proofs.Pivots.{pivot-ge, pivot-lt}
+use Rattle.solve.proofs.Steps.{rows-at, row-above, eliminated-next, eliminated-shaped}
+use Rattle.solve.proofs.Stored.{solved-along}
 use Rattle.solve_laws.proofs.Zeros.{over-zero, times-wild}
 
 module _ {A : Type 0} (o : Ops A) (m s : ℕ) where
@@ -41,7 +46,7 @@ module _ {A : Type 0} (o : Ops A) (m s : ℕ) where
     unfolding pivoted
     row-kept r h =
         above r (omega arith)
-        ∙ swapped-other M c (pivot o m c M) (omega (arith, sh .count)) (omega (arith, sh .count, pivot-lt o m c M C)) r (λ e. omega arith) (λ e. omega (arith, pivot-ge o m c M))
+        ∙ swapped-other M c (pivot o m c M) (omega (arith, sh .count)) (omega (arith, sh .count, pivot-lt o m c M C)) r (λ e. omega arith) (λ e. omega (arith, pivot-ge o m c M C))
 
   module _ (M : List (List A)) (sh : Shaped m s M) where
     -- row c once its column is done
@@ -77,32 +82,35 @@ module _ {A : Type 0} (o : Ops A) (m s : ℕ) where
             )
 
 -- ---- what an accepted solve says of every column and of every row
-module _ {A : Type 0} (o : Ops A) (m : ℕ) (M : List (List A)) (ok : solvedOk o m M ≡ true) where
+module _ {A : Type 0} (o : Ops A) (m : ℕ) (M : List (List A)) (sh : Shaped m (m + 2) M) (ok : solvedOk o m M ≡ true) where
+  along : (eliminatedOk o m m M && backedOk o m m (eliminated o m m M)) ≡ true
+  along = sym (solved-along o m M sh) ∙ ok
+
   pub columns-fine : (c : ℕ) → c < m → columnOk o m c (eliminated o m c M) ≡ true
-  unfolding solvedOk eliminatedOk
-  columns-fine = each m (λ c. columnOk o m c (eliminated o m c M)) (and-left (eliminatedOk o m m M) (backedOk o m m (eliminated o m m M)) ok)
+  unfolding eliminatedOk
+  columns-fine = each m (λ c. columnOk o m c (eliminated o m c M)) (and-left (eliminatedOk o m m M) (backedOk o m m (eliminated o m m M)) along)
 
   pub answers-fine : (i : ℕ) → i < m → answeredUpOk o m i (backed o m i (eliminated o m m M)) ≡ true
-  unfolding solvedOk backedOk
-  answers-fine = each m (λ i. answeredUpOk o m i (backed o m i (eliminated o m m M))) (and-right (eliminatedOk o m m M) (backedOk o m m (eliminated o m m M)) ok)
+  unfolding backedOk
+  answers-fine = each m (λ i. answeredUpOk o m i (backed o m i (eliminated o m m M))) (and-right (eliminatedOk o m m M) (backedOk o m m (eliminated o m m M)) along)
 
 answer-wild : (M : List (List Float)) (r c d n : ℕ) → eq (at2 plain M r d) zero64 ≡ true → finite (answer plain M r c d n) ≡ false
 unfolding answer
 answer-wild M r c d n h = times-wild (remains plain M r c d n) (div binary64 one64 (at2 plain M r d)) (over-zero one64 (at2 plain M r d) h)
 
 -- a pivot that compares equal to 0
-pub pivot-refused : (m s : ℕ) (M : List (List Float)) → Shaped m s M → (c : ℕ) → c < m
+pub pivot-refused : (m : ℕ) (M : List (List Float)) → Shaped m (m + 2) M → (c : ℕ) → c < m
     → eq (at2 plain (eliminated plain m c M) (pivot plain m c (eliminated plain m c M)) c) zero64 ≡ true → solvedOk plain m M ≡ false
 unfolding answeredOk
-pivot-refused m s M sh c C z = refuted (solvedOk plain m M) (λ ok.
+pivot-refused m M sh c C z = refuted (solvedOk plain m M) (λ ok.
     let E = eliminated plain m m M in
     let i = m - 1 - c in
     let N = backed plain m i E in
     let r : m - 1 - i ≡ c = omega arith in
     let at : at2 plain N (m - 1 - i) (m - 1 - i) ≡ at2 plain (eliminated plain m c M) (pivot plain m c (eliminated plain m c M)) c =
     ap (λ (k : ℕ). at2 plain N k k) r
-    ∙ matrix-kept plain m s E (eliminated-shaped plain m s m M (le-refl m) sh) c c i C (omega arith)
-    ∙ ap (λ (t : List Float). getD t c nan) (finished plain m s M sh c m C (le-refl m)) in
+    ∙ matrix-kept plain m (m + 2) E (eliminated-shaped plain m (m + 2) m M (le-refl m) sh) c c i C (omega arith)
+    ∙ ap (λ (t : List Float). getD t c nan) (finished plain m (m + 2) M sh c m C (le-refl m)) in
     no
     (sym (answer-wild N (m - 1 - i) m (m - 1 - i) i (ap (λ (x : Float). eq x zero64) at ∙ z))
-    ∙ and-left (finite (answer plain N (m - 1 - i) m (m - 1 - i) i)) (finite (answer plain N (m - 1 - i) (m + 1) (m - 1 - i) i)) (answers-fine plain m M ok i (omega arith))))
+    ∙ and-left (finite (answer plain N (m - 1 - i) m (m - 1 - i) i)) (finite (answer plain N (m - 1 - i) (m + 1) (m - 1 - i) i)) (answers-fine plain m M sh ok i (omega arith))))

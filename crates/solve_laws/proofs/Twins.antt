@@ -18,12 +18,15 @@ use lib.Ieee.Scale.{finite}
 use Rattle.meaning.specs.Scalar.{plain, zero64}
 use Rattle.meaning.specs.Table.{at1, at2}
 use Rattle.solve.specs.Rows.{Shaped}
-use Rattle.solve.specs.Elimination.{lessAt, fineAt, subtracted, subtractedOk, reduced, reducedOk, rowFine, reducedRowsOk, pivot, pivoted, columnDone, columnOk, eliminated}
-use Rattle.solve.specs.Substitution.{solvedOk}
+use Rattle.solve.specs.Pivot.{pivot}
+use Rattle.solve.specs.Elimination.{lessAt, subtracted, reduced, pivoted, columnDone, eliminated}
+use Rattle.solve.specs.Stored.{solvedOk}
+use Rattle.solve.specs.Verdicts.{fineAt, subtractedOk, reducedOk, rowFine, reducedRowsOk, columnOk}
 use Rattle.meaning.proofs.Tests.{no, refuted, and-left, and-right}
 use Rattle.meaning.proofs.Every.{each}
 use Rattle.solve.proofs.Flat.{same, swapped-first, swapped-second, swapped-other}
-use Rattle.solve.proofs.Steps.{sub-at, fine-at, rows-at, row-below, rows-fine-at, pivot-ge, pivot-lt, eliminated-none, eliminated-next, eliminated-shaped}
+use Rattle.solve.proofs.Pivots.{pivot-ge, pivot-lt}
+use Rattle.solve.proofs.Steps.{sub-at, fine-at, rows-at, row-below, rows-fine-at, eliminated-none, eliminated-next, eliminated-shaped}
 use Rattle.solve_laws.proofs.Zeros.{self-quotient, less-once}
 use Rattle.solve_laws.proofs.Refused.{columns-fine, pivot-refused}
 
@@ -117,7 +120,7 @@ module _ (m c : ℕ) (D : List (List Float)) (sh : Shaped m (m + 2) D) (C : c < 
     to-lt = by-to c p a (λ k. k < m) (λ e. p-lt) (λ e. h)
 
     to-ge : c + 1 ≤ to c p a
-    to-ge = by-to c p a (λ k. c + 1 ≤ k) (λ e. past p (pivot-ge plain m c D) (λ q. n (e ∙ q))) (λ e. past a g (λ q. e (sym q)))
+    to-ge = by-to c p a (λ k. c + 1 ≤ k) (λ e. past p (pivot-ge plain m c D C) (λ q. n (e ∙ q))) (λ e. past a g (λ q. e (sym q)))
       where
         past : (k : ℕ) → c ≤ k → (c ≡ k → ⊥) → c + 1 ≤ k
         past k l q = elim (eq-or-lt-of-le l) [ inl e ↦ absurd (q e) | inr e ↦ omega arith ]
@@ -214,7 +217,7 @@ module _ (m c : ℕ) (D : List (List Float)) (sh : Shaped m (m + 2) D) (C : c < 
 -- ---- the whole elimination, where it is accepted
 module _ (m : ℕ) (M : List (List Float)) (sh : Shaped m (m + 2) M) (ok : solvedOk plain m M ≡ true) where
   not-zero : (c : ℕ) → c < m → eq (at2 plain (eliminated plain m c M) (pivot plain m c (eliminated plain m c M)) c) zero64 ≡ false
-  not-zero c h = refuted _ (λ z. no (sym (pivot-refused m (m + 2) M sh c h z) ∙ ok))
+  not-zero c h = refuted _ (λ z. no (sym (pivot-refused m M sh c h z) ∙ ok))
 
   reaches : (n : ℕ) → n ≤ m → Twins m 0 M → Twins m n (eliminated plain m n M) ⊎ Spent m n (eliminated plain m n M)
   reaches zero h t = rw (eliminated-none plain m M) (inl t)
@@ -222,8 +225,8 @@ module _ (m : ℕ) (M : List (List Float)) (sh : Shaped m (m + 2) M) (ok : solve
       let E = eliminated plain m n M in
       let shE = eliminated-shaped plain m (m + 2) n M (omega arith) sh in
       rw (← add-one n, eliminated-next plain m n M) (⊎-elim
-      (λ (u : Twins m n E). twins-next m n E shE h (columns-fine plain m M ok n h) (not-zero n h) u)
-      (λ (z : Spent m n E). inr (spent-next m n E shE h (columns-fine plain m M ok n h) (not-zero n h) z))
+      (λ (u : Twins m n E). twins-next m n E shE h (columns-fine plain m M sh ok n h) (not-zero n h) u)
+      (λ (z : Spent m n E). inr (spent-next m n E shE h (columns-fine plain m M sh ok n h) (not-zero n h) z))
       (reaches n (omega arith) t))
 
   none : Twins m 0 M → ⊥

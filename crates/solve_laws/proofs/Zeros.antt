@@ -3,32 +3,25 @@
 use mathlib.Core.Path.{_≡_, refl, sym, ap, _∙_, subst}
 use mathlib.Core.Bool.{Bool, true, false, not, _&&_, _||_, Bool·beq}
 use Prim.Native.Nat.{ℕ, zero, suc, _+_, _-_, _*_, _%_, _^_, _≤_, _<_}
-use native.Mathlib.Nat.{lt-of-lt-of-le, le-trans, le-of-eq, mul-lt-mul-of-pos-right, mul-pos, zero-mul, mul-one, one-mul, mul-assoc, sub-self, zero-lt-suc}
+use native.Mathlib.Nat.{lt-of-lt-of-le, le-trans, le-of-eq, mul-lt-mul-of-pos-right, mul-pos, zero-mul, mul-one, one-mul, mul-assoc, zero-lt-suc}
 use native.Mathlib.Omega.{arith}
-use borrow.Author.Tests.{le-ltb, eqb-true}
+use borrow.Author.Tests.{eqb-true}
 use lib.Dec.{eqb·suc-zero, T, ltb, eqb, leb, leb→le, ltb→lt}
 use lib.Pow.{pow-pos, pow-add, pow-mono}
 use lib.IntN.{ℤ, pos, negsuc}
-use lib.Ieee.{Float, nan, inf, fin, Format, binary64, up, down, unlike, round, sum, add, sub, neg, mul, div, eq, level, fits, ofBits}
+use lib.Ieee.{Float, nan, inf, fin, Format, binary64, up, down, unlike, round, add, sub, neg, mul, div, eq, fits, ofBits}
 use lib.Ieee.Fits.{up-pos, down-pos, and-l, and-r}
 use lib.Ieee.Exact.{HasValue, round-exact}
 use lib.Ieee.Scale.{round-same, finite}
 use Rattle.meaning.specs.Scalar.{zero64, one64}
 use Rattle.meaning.proofs.Tests.{no, and-left}
 use Rattle.meaning.proofs.Whole.{exponent}
+use Rattle.meaning.proofs.Zeros.{zero-eq, round-zero, less-same}
 
 abbrev B : Format
 B = binary64
 
 -- ---- what compares equal to 0 is a zero, of either sign
-zero-eq : (s : Bool) (e : ℤ) → eq (fin s 0 e) zero64 ≡ true
-unfolding eq ofBits
-zero-eq s e = rw (zero-mul (up e), zero-mul (down e)) (go s)
-  where
-    go : (s : Bool) → level s (0 * 1) false 0 ≡ true
-    go true = refl
-    go false = refl
-
 no-zero : (s : Bool) (m : ℕ) (e : ℤ) → eq (fin s (suc m) e) zero64 ≡ true → ⊥
 unfolding eq ofBits
 no-zero s m e h =
@@ -86,12 +79,6 @@ self-quotient (fin s zero e) h g = no (sym h ∙ zero-eq s e)
 self-quotient (fin s (suc m) e) h g = one-over s m e
 
 -- ---- a double is its own rounding
-round-zero : (s : Bool) (c : ℕ) → 0 < c → round B s 0 c ≡ fin s 0 (pos 0)
-round-zero s c h = round-same B s 0 c 0 1 h (omega arith) (omega (arith, zero-mul c)) ∙ go
-  where
-    go : round B s 0 1 ≡ fin s 0 (pos 0)
-    go = unfold round in refl
-
 -- a number of at most 53 digits, not too deep and not too large
 exact : (s : Bool) (q : ℕ) (e : ℤ) → q < 2 ^ 53 → down e ≤ 2 ^ 1074 → q * up e < 2 ^ 1024 * down e → HasValue (round B s (q * up e) (down e)) s (q * up e) (down e)
 exact s q (pos k) h d b =
@@ -138,17 +125,6 @@ once s m e h = rw (one-mul (m * up e), one-mul (down e)) (go s (own-round s m e 
     go false h = h
 
 -- ---- a number less the same number
-gone : (s : Bool) (a c : ℕ) → 0 < c → eq (sum B s a (not s) a c) zero64 ≡ true
-unfolding sum
-gone true a c h = rw (le-ltb a a (omega arith), sub-self a, round-zero false c h) (zero-eq false (pos 0))
-gone false a c h = rw (le-ltb a a (omega arith), sub-self a, round-zero false c h) (zero-eq false (pos 0))
-
-less-same : (s : Bool) (m : ℕ) (e : ℤ) (y : Float) → HasValue y s (m * up e) (down e) → eq (sub B (fin s m e) y) zero64 ≡ true
-unfolding sub add neg
-less-same s m e nan h = absurd h
-less-same s m e (inf t) h = absurd h
-less-same s m e (fin t n d) h = rw (h .0, h .1) (gone s (m * up e * down d) (down e * down d) (mul-pos (down-pos e) (down-pos d)))
-
 less-inf : (s : Bool) → finite (sub B (inf s) (mul B one64 (inf s))) ≡ false
 unfolding sub add neg mul ofBits
 less-inf true = refl

@@ -1,26 +1,26 @@
 -- The span: halving keeps it between its ends, and among knots that do not fall there is one i, and only one, with knot i ≤ t < knot i+1,
--- which halving finds and `spanOf` is. Assumes nothing.
-use mathlib.Core.Path.{_≡_, refl, sym, _∙_}
+-- which halving finds and `spanOf` is. Only the first n + 1 knots are read. Assumes nothing.
+use mathlib.Core.Path.{_≡_, refl, sym, ap, _∙_}
 use mathlib.Core.Bool.{Bool, true, false, cond, true≢false}
 use mathlib.Core.List.{List}
 use mathlib.Core.Logic.{_⊎_, inl, inr}
 use Prim.Native.Nat.{ℕ, zero, suc, _+_, _-_, _≤_, _<_}
 use native.Mathlib.Nat.{le-refl}
 use native.Mathlib.Omega.{arith}
-use borrow.Author.Tests.{ltb-true, ltb-false, le-ltb}
+use borrow.Author.Tests.{ltb-true, ltb-false, le-ltb, lt-leb}
 use lib.Dec.{ltb}
-use lib.ListN.{take}
+use lib.ListN.{length, take, List·getD-eq-default}
 use lib.Ieee.{Float, nan, inf, fin, lt, le, isNan}
 use Rattle.meaning.specs.Loops.{spin, rest}
 use Rattle.meaning.proofs.Order.{nan-lt, nan-le, le-nan, lt-le, le-trans, lt-not-le, not-lt-le, not-le-lt, lt-left}
 use Rattle.meaning.specs.Search.{seek}
-use Rattle.knots.specs.Rules.{knot}
+use Rattle.knots.specs.Rules.{knot, NotFalling}
 use Rattle.span.specs.Span.{holds, spanOf}
 use Rattle.span.specs.Halving.{width, apart, middle, half, narrow, halvedOf}
 use Rattle.span.specs.declared.Ends.{Ends}
 use Rattle.meaning.proofs.Tests.{by-two, and-left, and-right, no}
 use Rattle.meaning.proofs.Searching.{seek-is}
-use Rattle.knots.proofs.Sorted.{NotFalling, no-nan, ordered, front}
+use Rattle.knots.proofs.Sorted.{no-nan, ordered, front}
 use Rattle.knots.proofs.Accepted.{Accepted}
 
 -- ---- halving
@@ -160,20 +160,32 @@ halves-nan ks n f =
 
 -- ---- the code's answer
 
-module _ (ks : List Float) (n : ℕ) (t : Float) (f : 4 ≤ n) (r : n ≤ 66) where
-  pub opened : halvedOf ks n t ≡ cond (le (knot ks n) t) (n - 1) (cond (le t (knot ks 3)) 3 (whole ks n t .lo))
-  unfolding halvedOf
-  opened = rw (le-ltb n 4 f, le-ltb 66 n r)
+-- knots that do not fall are all there
+pub reaches : (ks : List Float) (n : ℕ) → NotFalling ks n → n < length ks
+reaches ks n up = by-two (ltb n (length ks)) (λ h. ltb-true n (length ks) h) (λ h. absurd (missing (ltb-false n (length ks) h)))
+  where
+    missing : length ks ≤ n → ⊥
+    missing h =
+        let e : knot ks n ≡ nan = List·getD-eq-default ks nan h in
+        true≢false (sym (up n (omega arith)) ∙ ap (λ (x : Float). le x (knot ks (n + 1))) e ∙ nan-le (knot ks (n + 1)))
 
-  a-nan : isNan t ≡ true → halvedOf ks n t ≡ spanOf ks n t
-  a-nan h =
-      let e = is-nan t h in
-      opened ∙ rw (e, le-nan (knot ks n), nan-le (knot ks 3), span-nan ks n f) (halves-nan ks n f)
+module _ (ks : List Float) (n : ℕ) (t : Float) (f : 4 ≤ n) (r : n ≤ 66) where
+  module _ (l : n < length ks) where
+    pub opened : halvedOf ks n t ≡ cond (le (knot ks n) t) (n - 1) (cond (le t (knot ks 3)) 3 (whole ks n t .lo))
+    unfolding halvedOf
+    opened = rw (le-ltb n 4 f, le-ltb 66 n r, lt-leb (length ks) n l)
+
+    a-nan : isNan t ≡ true → halvedOf ks n t ≡ spanOf ks n t
+    a-nan h =
+        let e = is-nan t h in
+        opened ∙ rw (e, le-nan (knot ks n), nan-le (knot ks 3), span-nan ks n f) (halves-nan ks n f)
 
   -- for knots that do not fall and any t, a NaN too
   pub halved-span : NotFalling ks n → halvedOf ks n t ≡ spanOf ks n t
   unfolding spanOf
-  halved-span up = by-two (isNan t) a-nan (λ m. opened ∙ a-number m (le (knot ks n) t) (le t (knot ks 3)) refl refl)
+  halved-span up =
+      let l = reaches ks n up in
+      by-two (isNan t) (a-nan l) (λ m. opened l ∙ a-number m (le (knot ks n) t) (le t (knot ks 3)) refl refl)
     where
       a-number : isNan t ≡ false → (a b : Bool) → le (knot ks n) t ≡ a → le t (knot ks 3) ≡ b → cond a (n - 1) (cond b 3 (whole ks n t .lo)) ≡ spanOf ks n t
       a-number m true b p q = rw p
@@ -182,6 +194,34 @@ module _ (ks : List Float) (n : ℕ) (t : Float) (f : 4 ≤ n) (r : n ≤ 66) wh
           let lower = not-le-lt _ _ m (no-nan ks n up 3 (omega arith)) q in
           let upper = not-le-lt _ _ (no-nan ks n up n (omega arith)) m p in
           rw (p, q) (sought ks n t up (whole ks n t .lo) (found-inside ks n t up f lower upper))
+
+-- ---- two lists with the same first n + 1 knots
+
+module _ (ks ls : List Float) (n : ℕ) (t : Float) (same : (i : ℕ) → i ≤ n → knot ks i ≡ knot ls i) where
+  same-half : (e : Ends) → middle e ≤ n → narrow ks t e ≡ narrow ls t e
+  unfolding narrow
+  same-half e h = ap (λ (x : Float). half (lt t x) e) (same (middle e) h)
+
+  half-within : (b : Bool) (e : Ends) → e .lo ≤ n → e .hi ≤ n → (half b e .lo ≤ n) × (half b e .hi ≤ n)
+  half-within true e l h = (l, omega arith)
+  half-within false e l h = (omega arith, h)
+
+  same-spin : (m : ℕ) (e : Ends) → e .lo ≤ n → e .hi ≤ n → spin apart (narrow ks t) m e ≡ spin apart (narrow ls t) m e
+  unfolding spin narrow
+  same-spin zero e l h = refl
+  same-spin (suc m) e l h =
+      let w = half-within (lt t (knot ks (middle e))) e l h in
+      ap (λ (s : Ends). cond (apart e) s e)
+      (same-spin m (narrow ks t e) (w .0) (w .1) ∙ ap (λ (s : Ends). spin apart (narrow ls t) m s) (same-half e (omega arith)))
+
+  pub same-halved : 4 ≤ n → n ≤ 66 → n < length ks → n < length ls → halvedOf ks n t ≡ halvedOf ls n t
+  same-halved f r a b =
+      let last = same n (le-refl n) in
+      let third = same 3 (omega arith) in
+      let ends = same-spin (n - 3) (record { lo = 3; hi = n }) (omega arith) (le-refl n) in
+      opened ks n t f r a
+      ∙ (λ i. cond (le (last i) t) (n - 1) (cond (le t (third i)) 3 (ends i .lo)))
+      ∙ sym (opened ls n t f r b)
 
 -- an array that holds accepted knots in front
 pub accepted-span : (u : List Float) (n : ℕ) (t : Float) → Accepted (take (n + 4) u) n → halvedOf u n t ≡ spanOf u n t

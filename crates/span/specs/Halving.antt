@@ -3,7 +3,8 @@
 use mathlib.Core.Bool.{Bool, true, false, cond}
 use mathlib.Core.List.{List}
 use Prim.Native.Nat.{ℕ, _+_, _-_, _/_}
-use lib.Dec.{ltb}
+use lib.Dec.{ltb, leb}
+use lib.ListN.{length}
 use lib.Ieee.{Float, lt, le}
 use Rattle.meaning.specs.Loops.{rest}
 use Rattle.knots.specs.Rules.{knot}
@@ -26,10 +27,11 @@ half false e = record { lo = middle e; hi = e .hi }
 unfoldable pub narrow : List Float → Float → Ends → Ends
 narrow ks t e = half (lt t (knot ks (middle e))) e
 
--- for an n that has no curve the answer is 3
+-- for an n that has no curve, or a list that has no knot n, the answer is 3
 unfoldable pub halvedOf : List Float → ℕ → Float → ℕ
 unfolding narrow
 halvedOf ks n t =
     cond (ltb n 4) 3
     (cond (ltb 66 n) 3
-    (cond (le (knot ks n) t) (n - 1) (cond (le t (knot ks 3)) 3 (rest apart (narrow ks t) width (record { lo = 3; hi = n }) .lo))))
+    (cond (leb (length ks) n) 3
+    (cond (le (knot ks n) t) (n - 1) (cond (le t (knot ks 3)) 3 (rest apart (narrow ks t) width (record { lo = 3; hi = n }) .lo)))))

@@ -1,6 +1,8 @@
 // The span of a parameter, found by halving.
 ghost use mathlib.Core.Path.{_≡_};
 ghost use Prim.Native.Nat.{_+_, _≤_, _<_};
+ghost use lib.ListN.{length};
+ghost use Rattle.span.specs.Span.{IsSpan};
 ghost use Rattle.span.specs.Halving.{narrow, halvedOf};
 
 // The two ends of a search among the knots.
@@ -10,8 +12,8 @@ struct Ends {
 }
 
 // The half in which the span of t lies.
-fn narrowed(u: &[f64; 70], t: f64, e: Ends) -> Ends
-    requires { ⌜ e .lo + 1 < e .hi ⌝ ∗ ⌜ e .hi ≤ 66 ⌝ }
+fn narrowed(u: &[f64], t: f64, e: Ends) -> Ends
+    requires { ⌜ e .lo + 1 < e .hi ⌝ ∗ ⌜ e .hi ≤ 66 ⌝ ∗ ⌜ e .hi < length (now u) ⌝ }
     ensures { λ r. ⌜ r ≡ narrow (now (u .entry)) t e ⌝ ∗ ⌜ e .lo ≤ r .lo ⌝ ∗ ⌜ r .lo < r .hi ⌝ ∗ ⌜ r .hi ≤ e .hi ⌝ }
 {
     let lo = e.lo;
@@ -24,8 +26,8 @@ fn narrowed(u: &[f64; 70], t: f64, e: Ends) -> Ends
 }
 
 // The span by halving, for n control points.
-fn halved(u: &[f64; 70], n: usize, t: f64) -> usize
-    requires { ⌜ (4 ≤ n) × (n ≤ 66) ⌝ }
+fn halved(u: &[f64], n: usize, t: f64) -> usize
+    requires { ⌜ 4 ≤ n ⌝ ∗ ⌜ n ≤ 66 ⌝ ∗ ⌜ n < length (now u) ⌝ }
     ensures { λ r. ⌜ r ≡ halvedOf (now (u .entry)) n t ⌝ ∗ ⌜ 3 ≤ r ⌝ ∗ ⌜ r < n ⌝ }
 {
     if t >= u[n] {
@@ -41,15 +43,19 @@ fn halved(u: &[f64; 70], n: usize, t: f64) -> usize
     e.lo
 }
 
-// The span of t among the knots of n control points: for knots that do not fall, the i with knot i ≤ t < knot i+1, or the end's.
+// The span of t among the knots of n control points where these do not fall; what halving comes to where they do, and 3 where n has no curve
+// or u no knot n.
 // Corresponds to spline.rs: Curve::span.
-pub fn span(u: &[f64; 70], n: usize, t: f64) -> usize
-    ensures { λ r. ⌜ r ≡ halvedOf (now (u .entry)) n t ⌝ ∗ ⌜ 3 ≤ r ⌝ ∗ ⌜ r ≤ 65 ⌝ ∗ ⌜ (4 ≤ n → r < n) ⌝ }
+pub fn span(u: &[f64], n: usize, t: f64) -> usize
+    ensures { λ r. ⌜ r ≡ halvedOf (now (u .entry)) n t ⌝ ∗ ⌜ IsSpan (now (u .entry)) n t r ⌝ ∗ ⌜ 3 ≤ r ⌝ ∗ ⌜ r ≤ 65 ⌝ ∗ ⌜ (4 ≤ n → r < n) ⌝ }
 {
     if n < 4 {
         return 3;
     }
     if n > 66 {
+        return 3;
+    }
+    if n >= u.len() {
         return 3;
     }
     halved(u, n, t)

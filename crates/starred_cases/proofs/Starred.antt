@@ -2,8 +2,8 @@
 -- uniform knots. Each number is computed from the definition that the contracts cite: `refl` is the whole proof, but for the fit, whose system and solution
 -- are computed one after the other. Assumes nothing.
 use mathlib.Core.Path.{_≡_, refl, ap, _∙_}
-use mathlib.Core.Bool.{true, false, _&&_}
-use mathlib.Core.List.{List, [], _∷_}
+use mathlib.Core.Bool.{true, false}
+use mathlib.Core.List.{List, [], _∷_, _++_, flatten}
 use Prim.Native.Nat.{ℕ}
 use lib.ListN.{replicate, take}
 use lib.IntN.{pos}
@@ -15,7 +15,7 @@ use Rattle.refusal.specs.Refusals.{firstOf, refusal, none}
 use Rattle.meaning.specs.Number.{smaller}
 use Rattle.partials.specs.declared.Dv.{Dv}
 use Rattle.partials.specs.Dual.{dual, partials, zipDv, mapDv, cstDv, varDv, divDv, rootDv}
-use Rattle.meaning.specs.Search.{seekFrom, listed, every}
+use Rattle.meaning.specs.Search.{seekFrom, listed}
 use Rattle.knots.specs.declared.Form.the-variants.{Control, Fit}
 use Rattle.knots.specs.Rules.{count, knotRules}
 use Rattle.uniform.specs.Uniform.{uniformAt, uniformOf}
@@ -25,15 +25,15 @@ use Rattle.basis.specs.Derivatives.{firstCoef, midTurn, midCoefs, lastCoef, ord
 use Rattle.basis.specs.Basis.{valuesOf, orderTurn, functionOf, functionsOf, scaledRow, scaleTurn, scaled, derivativesOf, basisOf}
 use Rattle.shape.specs.Shape.{Shape}
 use Rattle.evaluate.specs.Point.{weighted, placed, insideOf, beyondOf, orderAt, ordersOf}
+use Rattle.solve.specs.Stored.{allFine, storedBySolve}
 use Rattle.solve.specs.Outcome.{solutionOf}
 use Rattle.point.specs.Point.{pointOrders}
 use Rattle.samples.specs.Samples.{samplesOf}
-use Rattle.outcome.specs.Outcome.{someWild}
 use Rattle.shape.specs.Rules.{handleRules}
 use Rattle.curve.specs.Build.{buildRules}
-use Rattle.fit.specs.Parameters.{parameterAt, knotAt, knotsBy}
-use Rattle.fit.specs.System.{spread, withSides, rowOk, rowsOk, rowAt, rowOf, fitRow, fitRows}
-use Rattle.fit.specs.Fit.{knotsThrough, rowThrough, rowsThrough, solutionThrough, curveThrough, fitFine}
+use Rattle.fit.specs.Parameters.{parameterAt, knotAt, knotsBy, fitParameter}
+use Rattle.fit.specs.System.{spread, withSides, rowAt, rowOf, fitRow, fitRows}
+use Rattle.fit.specs.Fit.{knotsThrough, rowsThrough, solutionThrough, curveThrough, storedThrough, fitFine}
 use Rattle.fit.specs.Fitting.{fitRules}
 
 -- a whole number, and a half and a quarter of one
@@ -108,19 +108,22 @@ system =
     ∷ (num 0 0 ∷ num 3 1 ∷ minus-twelve ∷ num 3 1 ∷ num 0 0 ∷ num 0 0 ∷ [])
     ∷ []
 
-row-0 : rowThrough two-points 0 ≡ num 3 1 ∷ minus-twelve ∷ num 3 1 ∷ num 0 0 ∷ num 0 0 ∷ num 0 0 ∷ []
+abbrev row-of : ℕ → List Float
+row-of r = fitRow plain (spanOf (knotsThrough two-points) 4) (knotsThrough two-points) (fitParameter plain two-points 2) two-points 2 r
+
+row-0 : row-of 0 ≡ num 3 1 ∷ minus-twelve ∷ num 3 1 ∷ num 0 0 ∷ num 0 0 ∷ num 0 0 ∷ []
 unfolding two-points fitRow rowOf rowAt spread withSides knotsBy knotAt parameterAt listed turns spanOf seekFrom basisOf derivativesOf scaled scaleTurn scaledRow functionsOf functionOf orderTurn valuesOf triangleOf sidesTurn columnOf columnTurn orderOf lastCoef midCoefs midTurn firstCoef add sub mul div neg lt le eq ofBits ofInt round
 row-0 = refl
 
-row-1 : rowThrough two-points 1 ≡ num 1 0 ∷ num 0 0 ∷ num 0 0 ∷ num 0 0 ∷ num 0 0 ∷ num 0 0 ∷ []
+row-1 : row-of 1 ≡ num 1 0 ∷ num 0 0 ∷ num 0 0 ∷ num 0 0 ∷ num 0 0 ∷ num 0 0 ∷ []
 unfolding two-points fitRow rowOf rowAt spread withSides knotsBy knotAt parameterAt listed turns spanOf seekFrom basisOf derivativesOf scaled scaleTurn scaledRow functionsOf functionOf orderTurn valuesOf triangleOf sidesTurn columnOf columnTurn orderOf lastCoef midCoefs midTurn firstCoef add sub mul div neg lt le eq ofBits ofInt round
 row-1 = refl
 
-row-2 : rowThrough two-points 2 ≡ num 0 0 ∷ num 0 0 ∷ num 0 0 ∷ num 1 0 ∷ num 3 0 ∷ num 3 1 ∷ []
+row-2 : row-of 2 ≡ num 0 0 ∷ num 0 0 ∷ num 0 0 ∷ num 1 0 ∷ num 3 0 ∷ num 3 1 ∷ []
 unfolding two-points fitRow rowOf rowAt spread withSides knotsBy knotAt parameterAt listed turns spanOf seekFrom basisOf derivativesOf scaled scaleTurn scaledRow functionsOf functionOf orderTurn valuesOf triangleOf sidesTurn columnOf columnTurn orderOf lastCoef midCoefs midTurn firstCoef add sub mul div neg lt le eq ofBits ofInt round
 row-2 = refl
 
-row-3 : rowThrough two-points 3 ≡ num 0 0 ∷ num 3 1 ∷ minus-twelve ∷ num 3 1 ∷ num 0 0 ∷ num 0 0 ∷ []
+row-3 : row-of 3 ≡ num 0 0 ∷ num 3 1 ∷ minus-twelve ∷ num 3 1 ∷ num 0 0 ∷ num 0 0 ∷ []
 unfolding two-points fitRow rowOf rowAt spread withSides knotsBy knotAt parameterAt listed turns spanOf seekFrom basisOf derivativesOf scaled scaleTurn scaledRow functionsOf functionOf orderTurn valuesOf triangleOf sidesTurn columnOf columnTurn orderOf lastCoef midCoefs midTurn firstCoef add sub mul div neg lt le eq ofBits ofInt round
 row-3 = refl
 
@@ -136,10 +139,6 @@ ys-solved : take 4 (solutionOf plain 4 system .ys) ≡ num 0 0 ∷ num 1 1 ∷ n
 unfolding system solutionOf sub mul div lt le eq ne neg ofBits smaller
 ys-solved = refl
 
-fine-solved : solutionOf plain 4 system .fine ≡ true
-unfolding system solutionOf sub mul div lt le eq ne neg ofBits smaller
-fine-solved = refl
-
 -- * fit (0,0), (3,6) gives B's control points
 B-by-fit-x : take 4 (curveThrough two-points .xs) ≡ num 0 0 ∷ num 1 0 ∷ num 1 1 ∷ num 3 0 ∷ []
 unfolding two-points curveThrough solutionThrough
@@ -150,18 +149,13 @@ unfolding two-points curveThrough solutionThrough
 B-by-fit-y = ap (λ (M : List (List Float)). take 4 (solutionOf plain 4 M .ys)) rows ∙ ys-solved
 
 -- and it is accepted
-knots-fine : someWild (knotsThrough two-points) 70 ≡ false
-unfolding two-points knotsBy knotAt parameterAt listed seekFrom ofBits
-knots-fine = refl
-
-rows-fine : rowsOk plain 4 (rowThrough two-points) ≡ true
-unfolding two-points rowsOk rowOk every neg ofInt round
-rows-fine =
-    (λ i. rowOk plain 4 (row-0 i) && rowOk plain 4 (row-1 i) && rowOk plain 4 (row-2 i) && rowOk plain 4 (row-3 i)) ∙ refl
+stored-fine : allFine plain (knotsThrough two-points ++ flatten system ++ storedBySolve plain 4 system) ≡ true
+unfolding two-points system knotsBy knotAt parameterAt listed flatten allFine storedBySolve sub mul div lt le eq ne neg ofBits smaller
+stored-fine = refl
 
 fit-accepted : firstOf (fitRules two-points false [] false) ≡ none
-unfolding two-points firstOf buildRules handleRules knotRules seekFrom fitFine solutionThrough ofInt round
-fit-accepted = rw (knots-fine, rows-fine, ap (λ (M : List (List Float)). solutionOf plain 4 M .fine) rows ∙ fine-solved)
+unfolding two-points firstOf buildRules handleRules knotRules seekFrom fitFine storedThrough ofInt round
+fit-accepted = rw (ap (λ (M : List (List Float)). allFine plain (knotsThrough two-points ++ flatten M ++ storedBySolve plain 4 M)) rows ∙ stored-fine)
 
 -- * the spans of 5 points: 0.5 gives 4; 1 gives 4; 0 gives 3
 span-of-half : spanOf (uniformOf 5) 5 half ≡ 4

@@ -9,19 +9,19 @@ ghost use Rattle.meaning.specs.Number.{sizeOf, atLeast, clampOf};
 ghost use Rattle.meaning.specs.Scalar.{plain};
 ghost use Rattle.refusal.specs.Refusals.{refusal};
 ghost use Rattle.partials.specs.Dual.{dual, varDv, addDv, subDv, mulDv, divDv, negDv, rootDv, overshootDv, fineDv};
-ghost use Rattle.plane.specs.Vector.{addV, subV, scaleV, dotV, normV, unitV};
+ghost use Rattle.plane.specs.Vector.{addV, subV, scaleV, dotV, crossV, normV, unitV, rot90V};
 ghost use Rattle.basis.specs.Basis.{derivativesOf};
 ghost use Rattle.knots.specs.declared.Form.the-variants.{Control, Fit};
 ghost use Rattle.outcome.specs.Outcome.{outcome};
 ghost use Rattle.shape.specs.Offered.{inSlices};
-ghost use Rattle.curve.specs.Record.{byRecord};
 ghost use Rattle.build.specs.Build.{sliced, builtInto};
+ghost use Rattle.hull.specs.Promise.{InItsHull, NeverRefused};
 ghost use Rattle.point.specs.Point.{pointAnswer, tangentAnswer};
 ghost use Rattle.measure.specs.Measure.{lengthAnswer, domainAnswer};
 ghost use Rattle.samples.specs.Samples.{counted, samplesAnswer};
 ghost use Rattle.closest.specs.Search.{closestAnswer};
 ghost use Rattle.c_values.specs.Crossing.{isGiven, readDv, readV, readSix, AnsweredD, AnsweredV, AnsweredP, AnsweredB};
-ghost use Rattle.c_curves.specs.Curves.{readCurve, behind, handed};
+ghost use Rattle.c_curves.specs.Curves.{asRecord, behind, handed};
 use knots::Form;
 use partials::Dv;
 use plane::P2;
@@ -86,7 +86,10 @@ pub extern "C" fn threshdune_evaluate(
     order: u64,
     out: &mut [f64],
 ) -> u64
-    ensures { λ r. ⌜ outcome (refusal r) (now (out .exit)) ≡ pointAnswer (inSlices (now (coords .entry)) (now (knots .entry))) t order (now (out .entry)) ⌝ }
+    ensures answer { λ r. ⌜ outcome (refusal r) (now (out .exit))
+        ≡ pointAnswer (inSlices (now (coords .entry)) (now (knots .entry))) t order (now (out .entry)) ⌝ }
+    ensures hull { λ r. ⌜ InItsHull (inSlices (now (coords .entry)) (now (knots .entry))) t (refusal r) (now (out .exit)) ⌝ }
+    ensures never { λ r. ⌜ NeverRefused (inSlices (now (coords .entry)) (now (knots .entry))) t order (now (out .entry)) (refusal r) ⌝ }
 {
     let r = point::evaluate_slices(coords, knots, t, order as usize, out);
     r.number
@@ -100,7 +103,9 @@ pub extern "C" fn threshdune_point_tangent(
     t: f64,
     out: &mut [f64],
 ) -> u64
-    ensures { λ r. ⌜ outcome (refusal r) (now (out .exit)) ≡ tangentAnswer (inSlices (now (coords .entry)) (now (knots .entry))) t (now (out .entry)) ⌝ }
+    ensures answer { λ r. ⌜ outcome (refusal r) (now (out .exit))
+        ≡ tangentAnswer (inSlices (now (coords .entry)) (now (knots .entry))) t (now (out .entry)) ⌝ }
+    ensures hull { λ r. ⌜ InItsHull (inSlices (now (coords .entry)) (now (knots .entry))) t (refusal r) (now (out .exit)) ⌝ }
 {
     let r = point::point_tangent_slices(coords, knots, t, out);
     r.number
@@ -109,7 +114,8 @@ pub extern "C" fn threshdune_point_tangent(
 // The length of the control polygon.
 #[no_mangle]
 pub extern "C" fn threshdune_length(coords: &[f64], knots: &[f64], length: &mut f64) -> u64
-    ensures { λ r. ⌜ behind (refusal r) (now (length .exit)) ≡ handed (lengthAnswer (inSlices (now (coords .entry)) (now (knots .entry)))) 0 (now (length .entry)) ⌝ }
+    ensures { λ r. ⌜ behind (refusal r) (now (length .exit))
+        ≡ handed (lengthAnswer (inSlices (now (coords .entry)) (now (knots .entry)))) 0 (now (length .entry)) ⌝ }
 {
     let r = c_curves::hand_number(measure::length_slices(coords, knots), length);
     r.number
@@ -123,8 +129,10 @@ pub extern "C" fn threshdune_domain(
     from: &mut f64,
     to: &mut f64,
 ) -> u64
-    ensures { λ r. ⌜ behind (refusal r) (now (from .exit)) ≡ handed (domainAnswer (inSlices (now (coords .entry)) (now (knots .entry)))) 0 (now (from .entry)) ⌝ }
-    ensures { λ r. ⌜ behind (refusal r) (now (to .exit)) ≡ handed (domainAnswer (inSlices (now (coords .entry)) (now (knots .entry)))) 1 (now (to .entry)) ⌝ }
+    ensures { λ r. ⌜ behind (refusal r) (now (from .exit))
+        ≡ handed (domainAnswer (inSlices (now (coords .entry)) (now (knots .entry)))) 0 (now (from .entry)) ⌝ }
+    ensures { λ r. ⌜ behind (refusal r) (now (to .exit))
+        ≡ handed (domainAnswer (inSlices (now (coords .entry)) (now (knots .entry)))) 1 (now (to .entry)) ⌝ }
 {
     let r = c_curves::hand_interval(measure::domain_slices(coords, knots), from, to);
     r.number
@@ -155,7 +163,8 @@ pub extern "C" fn threshdune_closest(
     py: f64,
     t: &mut f64,
 ) -> u64
-    ensures { λ r. ⌜ behind (refusal r) (now (t .exit)) ≡ handed (closestAnswer (inSlices (now (coords .entry)) (now (knots .entry))) (record { x = px; y = py })) 0 (now (t .entry)) ⌝ }
+    ensures { λ r. ⌜ behind (refusal r) (now (t .exit))
+        ≡ handed (closestAnswer (inSlices (now (coords .entry)) (now (knots .entry))) (record { x = px; y = py })) 0 (now (t .entry)) ⌝ }
 {
     let r = c_curves::hand_number(closest::closest_slices(coords, knots, px, py), t);
     r.number
@@ -298,7 +307,8 @@ pub extern "C" fn threshdune_partials_neg(
     out: &mut [f64],
     count: &mut u64,
 ) -> u64
-    ensures { λ r. ⌜ AnsweredD (negDv (readDv (now (a .entry)) 0 «a_count»)) (now (out .entry)) (now (count .entry)) r (now (out .exit)) (now (count .exit)) ⌝ }
+    ensures { λ r. ⌜ AnsweredD (negDv (readDv (now (a .entry)) 0 «a_count»)) (now (out .entry)) (now (count .entry)) r
+        (now (out .exit)) (now (count .exit)) ⌝ }
 {
     let x = c_values::read_value(a, a_count as usize);
     c_values::answer(x.neg(), out, count)
@@ -312,7 +322,8 @@ pub extern "C" fn threshdune_partials_root(
     out: &mut [f64],
     count: &mut u64,
 ) -> u64
-    ensures { λ r. ⌜ AnsweredD (rootDv (readDv (now (a .entry)) 0 «a_count»)) (now (out .entry)) (now (count .entry)) r (now (out .exit)) (now (count .exit)) ⌝ }
+    ensures { λ r. ⌜ AnsweredD (rootDv (readDv (now (a .entry)) 0 «a_count»)) (now (out .entry)) (now (count .entry)) r
+        (now (out .exit)) (now (count .exit)) ⌝ }
 {
     let x = c_values::read_value(a, a_count as usize);
     c_values::answer(x.root(), out, count)
@@ -384,6 +395,15 @@ pub extern "C" fn threshdune_plane_unit(ax: f64, ay: f64, out: &mut [f64]) -> u6
     c_values::answer_pair(a.unit(), out)
 }
 
+// a turned by 90 degrees counter-clockwise.
+#[no_mangle]
+pub extern "C" fn threshdune_plane_rot90(ax: f64, ay: f64, out: &mut [f64]) -> u64
+    ensures { λ r. ⌜ AnsweredP (rot90V plain (record { x = ax; y = ay })) (now (out .entry)) r (now (out .exit)) ⌝ }
+{
+    let a = P2 { x: ax, y: ay };
+    c_values::answer_pair(a.rot90(), out)
+}
+
 // The inner product of a and b.
 #[no_mangle]
 pub extern "C" fn threshdune_plane_dot(ax: f64, ay: f64, bx: f64, by: f64) -> f64
@@ -392,6 +412,16 @@ pub extern "C" fn threshdune_plane_dot(ax: f64, ay: f64, bx: f64, by: f64) -> f6
     let a = P2 { x: ax, y: ay };
     let b = P2 { x: bx, y: by };
     a.dot(b)
+}
+
+// The outer product of a and b.
+#[no_mangle]
+pub extern "C" fn threshdune_plane_cross(ax: f64, ay: f64, bx: f64, by: f64) -> f64
+    ensures { λ r. ⌜ r ≡ crossV plain (record { x = ax; y = ay }) (record { x = bx; y = by }) ⌝ }
+{
+    let a = P2 { x: ax, y: ay };
+    let b = P2 { x: bx, y: by };
+    a.cross(b)
 }
 
 // The length of a.
@@ -474,6 +504,21 @@ pub extern "C" fn threshdune_plane_partials_unit(
     c_values::answer_vector(x.unit(), out, counts)
 }
 
+// a turned by 90 degrees counter-clockwise.
+#[no_mangle]
+pub extern "C" fn threshdune_plane_partials_rot90(
+    a: &[f64],
+    a_counts: &[u64],
+    out: &mut [f64],
+    counts: &mut [u64],
+) -> u64
+    ensures { λ r. ⌜ AnsweredV (rot90V dual (readV (now (a .entry)) (now («a_counts» .entry))))
+        (now (out .entry)) (now (counts .entry)) r (now (out .exit)) (now (counts .exit)) ⌝ }
+{
+    let x = c_values::read_vector(a, a_counts);
+    c_values::answer_vector(x.rot90(), out, counts)
+}
+
 // The inner product of a and b.
 #[no_mangle]
 pub extern "C" fn threshdune_plane_partials_dot(
@@ -490,6 +535,24 @@ pub extern "C" fn threshdune_plane_partials_dot(
     let x = c_values::read_vector(a, a_counts);
     let y = c_values::read_vector(b, b_counts);
     c_values::answer(x.dot(y), out, count)
+}
+
+// The outer product of a and b.
+#[no_mangle]
+pub extern "C" fn threshdune_plane_partials_cross(
+    a: &[f64],
+    a_counts: &[u64],
+    b: &[f64],
+    b_counts: &[u64],
+    out: &mut [f64],
+    count: &mut u64,
+) -> u64
+    ensures { λ r. ⌜ AnsweredD (crossV dual (readV (now (a .entry)) (now («a_counts» .entry))) (readV (now (b .entry)) (now («b_counts» .entry))))
+        (now (out .entry)) (now (count .entry)) r (now (out .exit)) (now (count .exit)) ⌝ }
+{
+    let x = c_values::read_vector(a, a_counts);
+    let y = c_values::read_vector(b, b_counts);
+    c_values::answer(x.cross(y), out, count)
 }
 
 // The length of a.
@@ -543,8 +606,12 @@ pub extern "C" fn threshdune_record_evaluate(
     order: u64,
     out: &mut [f64],
 ) -> u64
-    ensures { λ r. ⌜ outcome (refusal r) (now (out .exit))
-        ≡ pointAnswer (byRecord (readCurve points «knot_count» (now (xs .entry)) (now (ys .entry)) (now (knots .entry)))) t order (now (out .entry)) ⌝ }
+    ensures answer { λ r. ⌜ outcome (refusal r) (now (out .exit))
+        ≡ pointAnswer (asRecord points «knot_count» (now (xs .entry)) (now (ys .entry)) (now (knots .entry))) t order (now (out .entry)) ⌝ }
+    ensures hull { λ r. ⌜ InItsHull (asRecord points «knot_count» (now (xs .entry)) (now (ys .entry)) (now (knots .entry))) t (refusal r)
+        (now (out .exit)) ⌝ }
+    ensures never { λ r. ⌜ NeverRefused (asRecord points «knot_count» (now (xs .entry)) (now (ys .entry)) (now (knots .entry)))
+        t order (now (out .entry)) (refusal r) ⌝ }
 {
     let c = c_curves::read_curve(points, knot_count, xs, ys, knots);
     let r = point::evaluate(c, t, order as usize, out);
@@ -562,8 +629,10 @@ pub extern "C" fn threshdune_record_point_tangent(
     t: f64,
     out: &mut [f64],
 ) -> u64
-    ensures { λ r. ⌜ outcome (refusal r) (now (out .exit))
-        ≡ tangentAnswer (byRecord (readCurve points «knot_count» (now (xs .entry)) (now (ys .entry)) (now (knots .entry)))) t (now (out .entry)) ⌝ }
+    ensures answer { λ r. ⌜ outcome (refusal r) (now (out .exit))
+        ≡ tangentAnswer (asRecord points «knot_count» (now (xs .entry)) (now (ys .entry)) (now (knots .entry))) t (now (out .entry)) ⌝ }
+    ensures hull { λ r. ⌜ InItsHull (asRecord points «knot_count» (now (xs .entry)) (now (ys .entry)) (now (knots .entry))) t (refusal r)
+        (now (out .exit)) ⌝ }
 {
     let c = c_curves::read_curve(points, knot_count, xs, ys, knots);
     let r = point::point_tangent(c, t, out);
@@ -581,7 +650,7 @@ pub extern "C" fn threshdune_record_length(
     length: &mut f64,
 ) -> u64
     ensures { λ r. ⌜ behind (refusal r) (now (length .exit))
-        ≡ handed (lengthAnswer (byRecord (readCurve points «knot_count» (now (xs .entry)) (now (ys .entry)) (now (knots .entry))))) 0 (now (length .entry)) ⌝ }
+        ≡ handed (lengthAnswer (asRecord points «knot_count» (now (xs .entry)) (now (ys .entry)) (now (knots .entry)))) 0 (now (length .entry)) ⌝ }
 {
     let c = c_curves::read_curve(points, knot_count, xs, ys, knots);
     let r = c_curves::hand_number(measure::length(c), length);
@@ -600,9 +669,9 @@ pub extern "C" fn threshdune_record_domain(
     to: &mut f64,
 ) -> u64
     ensures { λ r. ⌜ behind (refusal r) (now (from .exit))
-        ≡ handed (domainAnswer (byRecord (readCurve points «knot_count» (now (xs .entry)) (now (ys .entry)) (now (knots .entry))))) 0 (now (from .entry)) ⌝ }
+        ≡ handed (domainAnswer (asRecord points «knot_count» (now (xs .entry)) (now (ys .entry)) (now (knots .entry)))) 0 (now (from .entry)) ⌝ }
     ensures { λ r. ⌜ behind (refusal r) (now (to .exit))
-        ≡ handed (domainAnswer (byRecord (readCurve points «knot_count» (now (xs .entry)) (now (ys .entry)) (now (knots .entry))))) 1 (now (to .entry)) ⌝ }
+        ≡ handed (domainAnswer (asRecord points «knot_count» (now (xs .entry)) (now (ys .entry)) (now (knots .entry)))) 1 (now (to .entry)) ⌝ }
 {
     let c = c_curves::read_curve(points, knot_count, xs, ys, knots);
     let r = c_curves::hand_interval(measure::domain(c), from, to);
@@ -622,7 +691,8 @@ pub extern "C" fn threshdune_record_samples(
     count: &mut u64,
 ) -> u64
     ensures { λ r. ⌜ counted (refusal r) (now (out .exit)) (now (count .exit))
-        ≡ samplesAnswer (byRecord (readCurve points «knot_count» (now (xs .entry)) (now (ys .entry)) (now (knots .entry)))) «per_span» (now (out .entry)) (now (count .entry)) ⌝ }
+        ≡ samplesAnswer (asRecord points «knot_count» (now (xs .entry)) (now (ys .entry)) (now (knots .entry)))
+        «per_span» (now (out .entry)) (now (count .entry)) ⌝ }
 {
     let c = c_curves::read_curve(points, knot_count, xs, ys, knots);
     let r = samples::samples(c, per_span as usize, out, count);
@@ -642,7 +712,8 @@ pub extern "C" fn threshdune_record_closest(
     t: &mut f64,
 ) -> u64
     ensures { λ r. ⌜ behind (refusal r) (now (t .exit))
-        ≡ handed (closestAnswer (byRecord (readCurve points «knot_count» (now (xs .entry)) (now (ys .entry)) (now (knots .entry)))) (record { x = px; y = py })) 0 (now (t .entry)) ⌝ }
+        ≡ handed (closestAnswer (asRecord points «knot_count» (now (xs .entry)) (now (ys .entry)) (now (knots .entry)))
+        (record { x = px; y = py })) 0 (now (t .entry)) ⌝ }
 {
     let c = c_curves::read_curve(points, knot_count, xs, ys, knots);
     let r = c_curves::hand_number(closest::closest(c, px, py), t);

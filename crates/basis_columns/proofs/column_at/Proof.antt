@@ -2,12 +2,12 @@
 use mathlib.Core.Path.{_≡_, sym, ap, _∙_}
 use mathlib.Core.Bool.{Bool}
 use Prim.Native.Nat.{_≤_}
-use lib.IntN.{ℤ, pos, natAbs, _+ℤ_}
+use lib.IntN.{ℤ, pos, _+ℤ_}
 use lib.Signed.{mag, ltZ}
 use mir.Syntax.{w64}
 use mir.Val.{toZ, ofZ}
 use Rattle.basis_columns.specs.Columns.{below}
-use Rattle.basis_columns.proofs.Signed.{sum-fits, sum-is, sum-small, cast-ok, neg-fits, neg-cast, neg-abs, not-negative, negative}
+use Rattle.basis_columns.proofs.Signed.{sum-fits, sum-is, sum-small, cast-ok, cast-is, not-negative, negative}
 use borrow.Author.Needs.{needs}
 use Rattle.basis_columns.proofs.column_at.Statement.{statement}
 use Rattle.basis_columns.proofs.column_at.Tie as tie
@@ -28,22 +28,14 @@ size c = let a = c .before .args in sum-small (a .r) (a .k) (search needs) (sear
 sign : (c : tie.After-below-by) {b : Bool} → ltZ (toZ w64 (ofZ w64 (toZ w64 (ofZ w64 (c .below-by .result)) +ℤ toZ w64 (c .before .args .j)))) (pos 0) ≡ b → ltZ (column c) (pos 0) ≡ b
 sign c h = ap (λ z. ltZ z (pos 0)) (sym (sum c)) ∙ h
 
-sub-result : tie.Need-sub-result
-sub-result c = neg-fits (sum (c .before)) (size (c .before))
+returns : tie.Need-returns
+returns c = negative (column (c .before)) (sign (c .before) (c .if1 .taken))
 
 cast-result : tie.Need-cast-result
-cast-result c = neg-cast (sum (c .before)) (size (c .before)) (negative (column (c .before)) (sign (c .before) (c .if1 .taken)))
-
-returns : tie.Need-returns
-returns c = neg-abs (sum (c .before)) (size (c .before))
-
-cast-result-2 : tie.Need-cast-result-2
-cast-result-2 c = cast-ok (sum (c .before)) (size (c .before)) (not-negative (column (c .before)) (sign (c .before) (c .if1 .left)))
+cast-result c = cast-ok (sum (c .before)) (size (c .before)) (not-negative (column (c .before)) (sign (c .before) (c .if1 .left)))
 
 returns-2 : tie.Need-returns-2
-returns-2 c = ap natAbs (sum (c .before))
+returns-2 c = cast-is (sum (c .before)) (size (c .before)) (not-negative (column (c .before)) (sign (c .before) (c .if1 .left)))
 
 pub column-at-spec : {M : Type 1} → statement M
-column-at-spec =
-    tie.close
-    (tie.spec (search needs) (search needs) add-at sub-result cast-result returns cast-result-2 returns-2)
+column-at-spec = tie.close (tie.spec (search needs) (search needs) add-at returns cast-result returns-2)

@@ -6,7 +6,7 @@ use lib.Signed.{leZ}
 use mir.Syntax.{w64}
 use mir.Val.{toZ, ofZ}
 use Rattle.basis_columns.specs.Columns.{below}
-use Rattle.basis_columns.proofs.Signed.{diff-read, diff-small, neg-fits, neg-cast, neg-size, below-minus-one}
+use Rattle.basis_columns.proofs.Signed.{diff-read, diff-small, neg-fits, neg-cast, neg-cast-is, below-minus-one}
 use borrow.Author.Needs.{needs}
 use Rattle.basis_columns.proofs.first_j.Statement.{statement}
 use Rattle.basis_columns.proofs.first_j.Tie as tie
@@ -34,7 +34,9 @@ cast-result c =
 
 returns-2 : tie.Need-returns-2
 returns-2 c =
-    neg-size (read (c .before)) (diff-small (c .before .before .args .r) (c .before .before .args .k) (search needs) (search needs)) ∙ simp (sign (c .before) (c .if1 .left))
+    neg-cast-is (read (c .before)) (diff-small (c .before .before .args .r) (c .before .before .args .k) (search needs) (search needs))
+    (below-minus-one (rk (c .before)) (sign (c .before) (c .if1 .left)))
+    ∙ simp (sign (c .before) (c .if1 .left))
 
 pub first-j-spec : {M : Type 1} → statement M
 first-j-spec = tie.close (tie.spec (search needs) returns sub-result cast-result returns-2)

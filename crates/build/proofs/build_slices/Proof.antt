@@ -12,6 +12,7 @@ use lib.Ieee.{Float}
 use Rattle.buffer.specs.Pasted.{pasted}
 use Rattle.build.specs.Build.{lacksRoom}
 use Rattle.build.proofs.Forms.{controls-few}
+use Rattle.build.proofs.Turned.{put-front}
 use Rattle.build.proofs.Sliced.{points-few, in-slices}
 use Rattle.build.proofs.build_slices.Statement.{statement}
 use Rattle.build.proofs.build_slices.Tie as tie
@@ -56,7 +57,10 @@ returns c =
     let f = t .before .before .before .before .before in
     let e = f .before .before in
     let a = e .before .before .before .before .before .before .before .args in
-    let put = ap (λ (l : List Float). pasted l (2 * f .build-with .result .curve .points) (now (a .control)) 0) (t .in-turn .ensures) in
+    let n = 2 * f .build-with .result .curve .points in
+    let put =
+    put-front (t .in-turn .result) n (now (a .control)) (t .in-turn .ensures .1)
+    ∙ ap (λ (l : List Float). pasted l n (now (a .control)) 0) (t .in-turn .ensures .0) in
     in-slices (a .form) (now (a .coords)) (a .given) (now (a .knots)) (now (a .work)) (now (a .control)) (now (a .knots-out))
     (told e) (f .build-with .ensures) (p .put .ensures ∙ put) (k .put2 .ensures)
 

@@ -9,7 +9,7 @@ returns : tie.Need-returns
 returns c = short _ _ _ (c .if1 .taken)
 
 returns-2 : tie.Need-returns-2
-returns-2 c = let w = c .before .before in given _ _ _ (w .before .before .if1 .left) (w .write .ensures) refl
+returns-2 c = let w = c .before .before in given _ _ _ (w .before .before .if1 .left) (w .write .ensures .0) refl
 
 pub answer-spec : {M : Type 1} → statement M
 answer-spec = tie.close (tie.spec returns (search needs) (search needs) returns-2)

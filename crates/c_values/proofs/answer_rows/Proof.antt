@@ -1,24 +1,25 @@
 -- `c_values::answer_rows` meets its contract.
-use Rattle.c_values.proofs.Answers.{short-out, short-counts, given-two}
+use Rattle.meaning.specs.Search.{listed}
 use Rattle.c_values.specs.Crossing.{AnsweredB}
+use Rattle.c_values.proofs.Answers.{short-out, short-counts, given-all}
 use borrow.Author.Needs.{needs}
 use Rattle.c_values.proofs.answer_rows.Statement.{statement}
 use Rattle.c_values.proofs.answer_rows.Tie as tie
 
 returns : tie.Need-returns
-unfolding AnsweredB
-returns c = short-out _ _ _ _ _ _ (c .if1 .taken)
+unfolding AnsweredB listed
+returns c = short-out _ _ _ (c .if1 .taken)
 
 returns-2 : tie.Need-returns-2
-unfolding AnsweredB
-returns-2 c = short-counts _ _ _ _ _ _ (c .before .if1 .left) (c .if2 .taken)
+unfolding AnsweredB listed
+returns-2 c = short-counts _ _ _ (c .before .if1 .left) (c .if2 .taken)
 
 returns-3 : tie.Need-returns-3
-unfolding AnsweredB
+unfolding AnsweredB listed
 returns-3 c =
     let w = c .before .before .before .before in
     let test = w .before .before .before in
-    given-two _ _ _ _ _ _ (test .before .if1 .left) (test .if2 .left) (w .write-rows .ensures .0) (w .write-rows .ensures .1)
+    given-all _ _ _ (test .before .if1 .left) (test .if2 .left) (w .write-rows .ensures .0) (w .write-rows .ensures .1)
 
 pub answer-rows-spec : {M : Type 1} → statement M
 answer-rows-spec =

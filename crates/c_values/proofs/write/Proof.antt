@@ -29,7 +29,7 @@ same-length c =
     (omega (arith, slice-aggregate-put (c .before .before .before .before)))
 
 returns : tie.Need-returns
-returns c = wrote (c .before .before)
+returns c = (wrote (c .before .before), sym (slice-aggregate-put (c .before .before .before .before)))
 
 pub write-spec : {M : Type 1} → statement M
 write-spec =

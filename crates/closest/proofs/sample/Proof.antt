@@ -1,34 +1,68 @@
 -- `closest::sample` meets its contract.
-use mathlib.Core.Path.{_≡_, ap, _∙_}
-use mathlib.Core.Bool.{Bool, _&&_}
-use lib.Ieee.Scale.{finite}
+use mathlib.Core.Path.{_≡_}
+use mathlib.Core.Bool.{false, _&&_}
+use denote.Ref.{now}
+use lib.Ieee.{Float, inf, nanBits, lt, ofBits}
 use Rattle.plane.specs.View.{view}
-use Rattle.closest.proofs.Steps.{distance-is, taken, passed}
+use Rattle.shape.specs.Shape.{Shape}
+use Rattle.closest.specs.Search.{distanceAt}
+use Rattle.closest.specs.Sampling.{squareAt}
+use Rattle.closest.proofs.Steps.{square-is, distance-is, beyond, taken, passed}
 use borrow.Author.Needs.{needs}
 use Rattle.closest.proofs.sample.Statement.{statement}
 use Rattle.closest.proofs.sample.Tie as tie
 
--- every distance so far is finite, and this one
-abbrev start-of : tie.After-both → tie.Start
-start-of c = c .before .before .before .before
+abbrev shape : tie.Start → Shape Float
+shape c = record { n = c .args .n; xs = now (c .args .xs); ys = now (c .args .ys); knots = now (c .args .u) }
 
-still : (c : tie.After-both) → c .both .result ≡ (start-of c .args .b .fine && finite (c .before .before .distance .result))
-still c = c .both .ensures ∙ ap (λ (x : Bool). start-of c .args .b .fine && x) (c .before .is-finite .ensures)
+float-from-bits-infinite : tie.Need-float-from-bits-infinite
+unfolding nanBits
+float-from-bits-infinite c = tt
+
+abbrev start-of : tie.After-both → tie.Start
+start-of c = c .before .before .before
+
+abbrev both-of : tie.After-distance → tie.After-both
+both-of c = c .before .before .before
+
+-- the square and the distance
+squared : (c : tie.After-both) → c .before .square .result ≡ squareAt (shape (start-of c)) (view (start-of c .args .p)) (start-of c .args .t)
+squared c = let s = start-of c in square-is _ (s .pre) (view (s .args .p)) (s .args .t) (c .before .before .orders .ensures) (c .before .square .ensures)
+
+rooted : (c : tie.After-distance)
+    → let s = start-of (both-of c) in c .distance .result ≡ distanceAt (shape s) (view (s .args .p)) (s .args .t)
+rooted c =
+    let b = both-of c in
+    let s = start-of b in
+    distance-is _ (s .pre) (view (s .args .p)) (s .args .t) (b .before .before .orders .ensures) (c .distance .ensures)
+
+-- every distance so far is finite, and this one
+fine : (c : tie.After-both) → c .both .result ≡ (start-of c .args .b .fine && lt (c .before .square .result) (inf false))
+unfolding ofBits
+fine c = c .both .ensures
 
 returns : tie.Need-returns
 returns c =
-    let o = c .before .before .before .before .before in
-    let a = o .before .args in
-    taken _ (view (a .p)) (a .b) (a .t) (distance-is _ (o .before .pre) (view (a .p)) (a .t) (o .orders .ensures) (c .before .before .before .before .distance .ensures)) (still (c .before .before)) (c .if1 .taken)
+    let b = c .before .before in
+    let a = start-of b .args in
+    beyond _ (view (a .p)) (a .b) (a .t) (squared b) (fine b) (c .if1 .taken)
 
 returns-2 : tie.Need-returns-2
 returns-2 c =
-    let o = c .before .before .before .before .before in
-    let a = o .before .args in
-    passed _ (view (a .p)) (a .b) (a .t) (distance-is _ (o .before .pre) (view (a .p)) (a .t) (o .orders .ensures) (c .before .before .before .before .distance .ensures)) (still (c .before .before)) (c .if1 .left)
+    let d = c .before .before in
+    let b = both-of d in
+    let a = start-of b .args in
+    taken _ (view (a .p)) (a .b) (a .t) (squared b) (fine b) (d .before .if1 .left) (rooted d) (c .if2 .taken)
+
+returns-3 : tie.Need-returns-3
+returns-3 c =
+    let d = c .before .before in
+    let b = both-of d in
+    let a = start-of b .args in
+    passed _ (view (a .p)) (a .b) (a .t) (squared b) (fine b) (d .before .if1 .left) (rooted d) (c .if2 .left)
 
 pub sample-spec : {M : Type 1} → statement M
 sample-spec =
     tie.close
-    (tie.spec (search needs) (search needs) (search needs) (search needs) (search needs) (search needs) returns
-    returns-2)
+    (tie.spec (search needs) (search needs) (search needs) (search needs) float-from-bits-infinite (search needs)
+    returns (search needs) returns-2 returns-3)

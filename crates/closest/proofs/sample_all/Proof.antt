@@ -1,5 +1,5 @@
 -- `closest::sample_all` meets its contract: a turn takes one sample of the walk.
-use Prim.Native.Nat.{_-_, _≤_}
+use Prim.Native.Nat.{_-_}
 use native.Mathlib.Omega.{arith}
 use borrow.Author.Needs.{needs}
 use denote.Ref.{now}
@@ -9,20 +9,20 @@ use Rattle.meaning.specs.Table.{at1}
 use Rattle.meaning.proofs.For.{At, first, next, last}
 use Rattle.plane.specs.View.{view}
 use Rattle.shape.specs.Shape.{Shape}
-use Rattle.closest.specs.Search.{sampled}
+use Rattle.closest.specs.Sampling.{sampled}
 use Rattle.closest.proofs.Folded.{nearest-walked}
 use Rattle.closest.proofs.sample_all.Statement.{statement}
 use Rattle.closest.proofs.sample_all.Tie as tie
 
 abbrev Inv-loop : tie.InvT-loop
-Inv-loop u n xs ys p room count best₀ k₀ best k = At 0 count (λ j x. sampled (record { n = n; xs = xs; ys = ys; knots = u }) (view p) x (at1 plain room j)) best₀ k best
+Inv-loop u n xs ys p room count infinite best₀ k₀ best k = At 0 count (λ j x. sampled (record { n = n; xs = xs; ys = ys; knots = u }) (view p) x (at1 plain room j)) best₀ k best
 
 abbrev μ-loop : tie.MeasureT-loop
-μ-loop u n xs ys p room count best₀ k₀ best k = count - k
+μ-loop u n xs ys p room count infinite best₀ k₀ best k = count - k
 
-float-from-bits-t14 : tie.Need-float-from-bits-t14 Inv-loop μ-loop
+float-from-bits-infinite : tie.Need-float-from-bits-infinite Inv-loop μ-loop
 unfolding nanBits
-float-from-bits-t14 c = tt
+float-from-bits-infinite c = tt
 
 loop-holds : tie.Need-loop-holds Inv-loop μ-loop
 loop-holds c = first (omega arith)
@@ -51,17 +51,5 @@ returns c =
 pub sample-all-spec : {M : Type 1} → statement M
 sample-all-spec =
     tie.close
-    (tie.spec
-    Inv-loop
-    μ-loop
-    (search needs)
-    (search needs)
-    float-from-bits-t14
-    loop-holds
-    (search needs)
-    array-read-sample
-    sample-requires
-    add-k
-    (search needs)
-    loop-again
-    returns)
+    (tie.spec Inv-loop μ-loop (search needs) float-from-bits-infinite (search needs) loop-holds (search needs)
+    array-read-sample sample-requires add-k (search needs) loop-again returns)

@@ -1,10 +1,11 @@
 -- `curve::every_other` meets its contract: a turn copies one number.
-use mathlib.Core.Path.{refl}
+use mathlib.Core.Path.{refl, _∙_}
 use Prim.Native.Nat.{_+_, _-_, _*_}
 use lib.ListN.{set}
-use Rattle.meaning.specs.Scalar.{plain}
+use Rattle.meaning.specs.Scalar.{plain, zero64}
 use Rattle.meaning.specs.Table.{at1}
 use Rattle.meaning.proofs.For.{At, first, next, last}
+use Rattle.meaning.proofs.Filling.{set-front}
 use Rattle.shape.specs.Shape.{everyOther}
 use borrow.Author.Needs.{needs}
 use Rattle.curve.proofs.every_other.Statement.{statement}
@@ -24,7 +25,7 @@ loop-again c = next (c .before .before .loop .inv) (search needs) refl
 
 returns : tie.Need-returns Inv-loop μ-loop
 unfolding everyOther
-returns c = last (c .before .loop .inv) (search needs)
+returns c = last (c .before .loop .inv) (search needs) ∙ set-front _ zero64 66 _ (search needs)
 
 pub every-other-spec : {M : Type 1} → statement M
 every-other-spec =

@@ -1,8 +1,6 @@
 -- `distance::distance` meets its contract.
 use mathlib.Core.Path.{_∙_, ap}
-use Rattle.meaning.specs.Scalar.{plain}
 use Rattle.meaning.specs.Root.{rootOf}
-use Rattle.plane.specs.Vector.{dotV}
 use Rattle.distance.specs.Distance.{distanceOf}
 use borrow.Author.Needs.{needs}
 use Rattle.distance.proofs.distance.Statement.{statement}
@@ -10,9 +8,7 @@ use Rattle.distance.proofs.distance.Tie as tie
 
 returns : tie.Need-returns
 unfolding distanceOf
-returns c =
-    let d = c .before .before .sub .ensures in
-    c .root .ensures ∙ ap rootOf (c .before .dot .ensures ∙ (λ i. dotV plain (d i) (d i)))
+returns c = c .root .ensures ∙ ap rootOf (c .before .square .ensures)
 
 pub distance-spec : {M : Type 1} → statement M
-distance-spec = tie.close (tie.spec (search needs) (search needs) (search needs) returns)
+distance-spec = tie.close (tie.spec (search needs) (search needs) returns)

@@ -11,12 +11,12 @@ use Rattle.evaluate.proofs.combine.Statement.{statement}
 use Rattle.evaluate.proofs.combine.Tie as tie
 
 abbrev Inv-loop : tie.InvT-loop
-Inv-loop xs ys i nd ders out₀ end k₀ out k =
+Inv-loop xs ys nd ders out₀ end k₀ out k =
     (end ≡ nd + 1)
-    × At 0 (nd + 1) (λ m l. set (set l (2 * m) (weighted plain xs i (getD ders m []))) (2 * m + 1) (weighted plain ys i (getD ders m []))) out₀ k out
+    × At 0 (nd + 1) (λ m l. set (set l (2 * m) (weighted plain xs 3 (getD ders m []))) (2 * m + 1) (weighted plain ys 3 (getD ders m []))) out₀ k out
 
 abbrev μ-loop : tie.MeasureT-loop
-μ-loop xs ys i nd ders out₀ end k₀ out k = end - k
+μ-loop xs ys nd ders out₀ end k₀ out k = end - k
 
 loop-holds : tie.Need-loop-holds Inv-loop μ-loop
 loop-holds c = (refl, first (search needs))

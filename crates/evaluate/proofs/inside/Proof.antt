@@ -1,13 +1,25 @@
--- `evaluate::inside` meets its contract.
-use mathlib.Core.Path.{_∙_}
-use Rattle.evaluate.specs.Point.{insideOf}
+-- `evaluate::inside` meets its contract: the four control points of the span, in a row.
+use mathlib.Core.Path.{refl, _∙_}
+use Prim.Native.Nat.{_+_}
+use denote.Ref.{now}
+use Rattle.evaluate.proofs.Pieces.{weighted-row, on-span-is}
 use borrow.Author.Needs.{needs}
 use Rattle.evaluate.proofs.inside.Statement.{statement}
 use Rattle.evaluate.proofs.inside.Tie as tie
 
 returns : tie.Need-returns
-unfolding insideOf
-returns c = c .combine .ensures ∙ rw (c .before .basis .ensures, c .before .before .span .ensures .0)
+returns c =
+    let y = c .before .before .before in
+    let x = y .before .before in
+    let i = x .before .before in
+    let a = i .before .before .args in
+    let at = i .span .result in
+    c .on-span .ensures
+    ∙ rw (y .four2 .ensures, x .four .ensures)
+    (on-span-is _ (record { n = a .n; xs = now (a .xs); ys = now (a .ys); knots = now (a .u) }) (a .t) (a .nd) (now (a .u)) at at _ _ (a .nd + 1)
+    (i .span .ensures .0) refl (weighted-row (now (a .xs)) at) (weighted-row (now (a .ys)) at))
 
 pub inside-spec : {M : Type 1} → statement M
-inside-spec = tie.close (tie.spec (search needs) (search needs) (search needs) returns)
+inside-spec =
+    tie.close
+    (tie.spec (search needs) (search needs) (search needs) (search needs) (search needs) (search needs) returns)

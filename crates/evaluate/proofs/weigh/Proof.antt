@@ -1,26 +1,30 @@
 -- `evaluate::weigh` meets its contract: a turn adds one product.
 use Prim.Native.Nat.{_+_, _-_}
-use mathlib.Core.Path.{refl}
+use denote.Ref.{now}
 use Rattle.meaning.specs.Scalar.{plain}
 use Rattle.meaning.specs.Table.{at1}
 use Rattle.meaning.proofs.For.{At, first, next, last}
 use Rattle.evaluate.specs.Point.{weighted}
+use Rattle.evaluate.proofs.Pieces.{weigh-turn}
 use borrow.Author.Needs.{needs}
 use Rattle.evaluate.proofs.weigh.Statement.{statement}
 use Rattle.evaluate.proofs.weigh.Tie as tie
 
 abbrev Inv-loop : tie.InvT-loop
-Inv-loop a i row s₀ j₀ s j =
-    At 0 4 (λ k x. plain .plus x (plain .times (at1 plain a (i - 3 + k)) (at1 plain row k))) s₀ j s
+Inv-loop a row s₀ j₀ s j =
+    At 0 4 (λ k x. plain .plus x (plain .times (at1 plain a (3 - 3 + k)) (at1 plain row k))) s₀ j s
 
 abbrev μ-loop : tie.MeasureT-loop
-μ-loop a i row s₀ j₀ s j = 4 - j
+μ-loop a row s₀ j₀ s j = 4 - j
 
 loop-holds : tie.Need-loop-holds Inv-loop μ-loop
 loop-holds c = first (search needs)
 
 loop-again : tie.Need-loop-again Inv-loop μ-loop
-loop-again c = next (c .before .before .loop .inv) (search needs) refl
+loop-again c =
+    let l = c .before .before in
+    let a = l .before .args in
+    next (l .loop .inv) (search needs) (weigh-turn (now (a .a)) (a .t2) (l .loop .j) (l .loop .s))
 
 returns : tie.Need-returns Inv-loop μ-loop
 unfolding weighted
@@ -30,4 +34,4 @@ pub weigh-spec : {M : Type 1} → statement M
 weigh-spec =
     tie.close
     (tie.spec Inv-loop μ-loop loop-holds (search needs) (search needs) (search needs) (search needs) (search needs)
-    (search needs) (search needs) (search needs) loop-again returns)
+    (search needs) loop-again returns)

@@ -1,15 +1,15 @@
 -- `fit::fill` meets its contract: the rows below r are the system's, and the verdict is theirs.
-use mathlib.Core.Path.{refl, _≡_, sym}
+use mathlib.Core.Path.{refl, _≡_, sym, _∙_}
 use Prim.Native.Nat.{_-_, _+_, _≤_}
 use native.Mathlib.Omega.{arith}
 use lib.ListN.{length}
 use Rattle.meaning.specs.Scalar.{plain}
 use Rattle.meaning.specs.Search.{every}
 use Rattle.solve.specs.Rows.{ofRows}
+use Rattle.solve.specs.Stored.{allFine}
 use Rattle.meaning.proofs.Every.{every-none, every-next}
-use Rattle.fit.specs.System.{rowOk, rowsOk}
 use Rattle.fit.specs.Stored.{foundFitRow, foundFitRows}
-use Rattle.fit.proofs.Rows.{Written, none-written, one-more, all-written, found-row-at, found-shaped}
+use Rattle.fit.proofs.Rows.{Written, none-written, one-more, all-written, found-row-at, found-shaped, found-verdict}
 use borrow.Author.Needs.{needs}
 use Rattle.fit.proofs.fill.Statement.{statement}
 use Rattle.fit.proofs.fill.Tie as tie
@@ -17,7 +17,7 @@ use Rattle.fit.proofs.fill.Tie as tie
 abbrev Inv-loop : tie.InvT-loop
 Inv-loop w₀ u p q n fine₀ m r₀ w fine r =
     ofRows (n + 2) (n + 2 + 2) w₀ (λ M rest. Written (n + 2) (n + 2 + 2) (foundFitRows u p q n) r M rest w)
-    × (fine ≡ every r (λ k. rowOk plain (n + 2) (foundFitRow u p q n k)))
+    × (fine ≡ every r (λ k. allFine plain (foundFitRow u p q n k)))
     × (r ≤ n + 2)
     × (length w ≡ length w₀)
 
@@ -41,12 +41,14 @@ loop-again c =
     )
 
 returns : tie.Need-returns Inv-loop μ-loop
-unfolding rowsOk
 returns c =
     let l = c .before .loop in
     let n = c .before .before .before .before .args .n in
     let e : l .r ≡ n + 2 = omega arith in
-    record { held = λ M rest q sh. all-written (found-shaped _ _ _ _) sh (l .inv .0 M rest q sh) (search needs); judged = rw e at (l .inv .1) }
+    record {
+      held = λ M rest q sh. all-written (found-shaped _ _ _ _) sh (l .inv .0 M rest q sh) (search needs);
+      judged = rw e at (l .inv .1) ∙ found-verdict _ _ _ n;
+    }
 
 pub fill-spec : {M : Type 1} → statement M
 fill-spec =

@@ -1,5 +1,5 @@
 -- `fit::fill_row` meets its contract: a turn stores one number and judges it.
-use mathlib.Core.Path.{_≡_, ap, _∙_}
+use mathlib.Core.Path.{_≡_, sym, ap, _∙_}
 use Prim.Native.Nat.{_-_, _+_}
 use native.Mathlib.Omega.{arith}
 use lib.Ieee.{nan}
@@ -9,8 +9,8 @@ use Rattle.meaning.proofs.Filling.{Filled, empty, filled, full}
 use Rattle.plane.specs.View.{view}
 use Rattle.meaning.specs.Search.{every}
 use Rattle.meaning.proofs.Every.{every-none, every-next}
+use Rattle.solve.proofs.Stored.{fine-listed}
 use Rattle.fit.specs.System.{spread, withSides}
-use Rattle.fit.proofs.Rows.{row-verdict}
 use borrow.Author.Needs.{needs}
 use Rattle.fit.proofs.fill_row.Statement.{statement}
 use Rattle.fit.proofs.fill_row.Tie as tie
@@ -36,7 +36,7 @@ returns c =
     let l = c .before .loop in
     let m = c .before .before .before .args .m in
     let e : l .k ≡ m + 2 = omega (arith, l .inv .0 .high) in
-    record { held = full (l .inv .0) (search needs); judged = rw e at (l .inv .1) ∙ row-verdict plain m _ }
+    record { held = full (l .inv .0) (search needs); judged = rw e at (l .inv .1) ∙ sym (fine-listed plain (m + 2) _) }
 
 pub fill-row-spec : {M : Type 1} → statement M
 fill-row-spec =

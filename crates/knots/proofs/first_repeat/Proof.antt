@@ -1,31 +1,11 @@
--- `knots::first_repeat` meets its contract: each knot passed differs from the third after it.
+-- `knots::first_repeat` meets its contract: where the pass finds nothing wrong there is nothing to find.
+use Rattle.meaning.proofs.Searching.{nowhere-found}
 use borrow.Author.Needs.{needs}
-use Prim.Native.Nat.{_-_}
-use Rattle.knots.specs.Repeat.{repeats}
-use Rattle.meaning.proofs.Searching.{Passed, passed, onward, found, ended}
 use Rattle.knots.proofs.first_repeat.Statement.{statement}
 use Rattle.knots.proofs.first_repeat.Tie as tie
 
-abbrev Inv-loop : tie.InvT-loop
-Inv-loop knots n j₀ j = Passed (repeats knots) 1 n j
-
-abbrev μ-loop : tie.MeasureT-loop
-μ-loop knots n j₀ j = n - j
-
-loop-holds : tie.Need-loop-holds Inv-loop μ-loop
-loop-holds c = passed (search needs)
-
-returns : tie.Need-returns Inv-loop μ-loop
-returns c = found (c .before .before .before .before .loop .inv) (search needs) (c .if1 .taken)
-
-loop-again : tie.Need-loop-again Inv-loop μ-loop
-loop-again c = onward (c .before .before .before .before .loop .inv) (search needs) (c .if1 .left)
-
-returns-2 : tie.Need-returns-2 Inv-loop μ-loop
-returns-2 c = ended (c .before .loop .inv) (search needs)
+returns : tie.Need-returns
+returns c = nowhere-found _ 1 _ (search needs) (c .before .none-repeats .ensures (c .if1 .taken))
 
 pub first-repeat-spec : {M : Type 1} → statement M
-first-repeat-spec =
-    tie.close
-    (tie.spec Inv-loop μ-loop loop-holds (search needs) (search needs) (search needs) (search needs) (search needs)
-    returns (search needs) (search needs) loop-again returns-2)
+first-repeat-spec = tie.close (tie.spec (search needs) returns (search needs) (search needs))

@@ -1,40 +1,12 @@
--- `outcome::first_wild` meets its contract: each number passed is finite, and past the end of the list there is none.
-use mathlib.Core.Path.{_∙_, sym, ap}
-use mathlib.Core.Bool.{not}
-use Prim.Native.Nat.{_-_}
-use denote.Ref.{now}
-use lib.Ieee.Scale.{finite}
-use Rattle.meaning.specs.Scalar.{plain}
-use Rattle.meaning.specs.Table.{at1}
-use Rattle.meaning.proofs.Searching.{Passed, passed, onward, found, ended}
-use Rattle.outcome.proofs.Wild.{past}
+-- `outcome::first_wild` meets its contract: where the pass finds nothing wrong there is nothing to find.
+use Prim.Native.Nat.{zero-le}
+use Rattle.meaning.proofs.Searching.{nowhere-found}
 use borrow.Author.Needs.{needs}
 use Rattle.outcome.proofs.first_wild.Statement.{statement}
 use Rattle.outcome.proofs.first_wild.Tie as tie
 
-abbrev Inv-loop : tie.InvT-loop
-Inv-loop a k i₀ i = Passed (λ j. not (finite (at1 plain a j))) 0 k i
-
-abbrev μ-loop : tie.MeasureT-loop
-μ-loop a k i₀ i = k - i
-
-loop-holds : tie.Need-loop-holds Inv-loop μ-loop
-loop-holds c = passed (search needs)
-
-returns : tie.Need-returns Inv-loop μ-loop
-returns c = found (c .before .before .loop .inv) (search needs) (past (now (c .before .before .before .before .args .a)) (c .before .before .loop .i) (search needs))
-
-returns-2 : tie.Need-returns-2 Inv-loop μ-loop
-returns-2 c = found (c .before .before .before .before .before .loop .inv) (search needs) (ap not (sym (c .before .is-finite .ensures)) ∙ c .if2 .taken)
-
-loop-again : tie.Need-loop-again Inv-loop μ-loop
-loop-again c = onward (c .before .before .before .before .before .loop .inv) (search needs) (ap not (sym (c .before .is-finite .ensures)) ∙ c .if2 .left)
-
-returns-3 : tie.Need-returns-3 Inv-loop μ-loop
-returns-3 c = ended (c .before .loop .inv) (search needs)
+returns-2 : tie.Need-returns-2
+returns-2 c = nowhere-found _ 0 _ zero-le (c .before .all-finite .ensures (c .if2 .taken))
 
 pub first-wild-spec : {M : Type 1} → statement M
-first-wild-spec =
-    tie.close
-    (tie.spec Inv-loop μ-loop loop-holds returns (search needs) (search needs) (search needs) returns-2 (search needs)
-    (search needs) loop-again returns-3)
+first-wild-spec = tie.close (tie.spec (search needs) (search needs) (search needs) returns-2 (search needs) (search needs))

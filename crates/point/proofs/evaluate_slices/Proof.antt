@@ -1,43 +1,45 @@
--- `point::evaluate_slices` meets its contract: the rules of the slices, then the answer.
-use mathlib.Core.Path.{ap, _∙_}
-use mathlib.Core.Bool.{true}
+-- `point::evaluate_slices` meets its contract: the rules of the slices, then the answer; the promises follow from it.
+use mathlib.Core.Path.{sym, _∙_, subst}
 use borrow.Author.Needs.{needs}
 use denote.Ref.{now}
-use Rattle.knots.specs.declared.Form.the-variants.{Control}
-use Rattle.outcome.proofs.Doors.{leaves, refused, after}
-use Rattle.shape.specs.Rules.{handleRules}
-use Rattle.shape.specs.Trusting.{trusting}
-use Rattle.shape.proofs.Handles.{numbered-handles}
-use Rattle.curve.specs.declared.Curve.{Curve}
-use Rattle.curve.proofs.Builds.{built-refusal, built-passed, built-curve}
-use Rattle.curve.proofs.Assembled.{assembled-trusted}
-use Rattle.point.specs.Point.{pointAnswer}
+use lib.Dec.{T}
+use Rattle.refusal.proofs.Rows.{number-of}
+use Rattle.shape.specs.Offered.{inSlices}
+use Rattle.shape.proofs.Sound.{slices-sound}
+use Rattle.point.proofs.Answered.{point-refused, point-answered, slices-accepted, slices-found}
+use Rattle.point.proofs.Promised.{point-promised, refused-point}
+use Rattle.point.proofs.Typed.{typed-slices}
 use Rattle.point.proofs.evaluate_slices.Statement.{statement}
 use Rattle.point.proofs.evaluate_slices.Tie as tie
 
-abbrev start-of : tie.After-assemble → tie.Start
+abbrev start-of : tie.After-check-handles → tie.Start
 start-of c = c .before .before .before .before
 
 returns : tie.Need-returns
-unfolding pointAnswer
-returns c = let t = c .before in leaves (refused _ _ (built-refusal _ _ (t .before .before .assemble .ensures)) (t .if1 .taken))
-
-answer-point-requires : tie.Need-answer-point-requires
-answer-point-requires c κs =
-    let t = c .before .before .before .before .before .before in
-    assembled-trusted _ _ (t .before .before .assemble .ensures) (t .if1 .left)
+returns c =
+    let k = c .before .before in
+    let a = start-of k .args in
+    let who = inSlices (now (a .coords)) (now (a .knots)) in
+    refused-point who (a .t) (k .check-handles .ensures) (c .if1 .taken) (a .order) (now (a .out))
+    (point-refused who (a .t) (now (a .out)) (k .check-handles .ensures) (c .if1 .taken) (a .order))
 
 returns-2 : tie.Need-returns-2
-unfolding pointAnswer
 returns-2 c =
-    let t = c .before .before .before .before .before .before .before .before .before in
-    let b = t .before .before in
-    let a = start-of b .args in
-    let made = built-curve _ _ (b .assemble .ensures) (t .if1 .left) in
-    leaves
-    (after (handleRules Control (now (a .coords)) true (now (a .knots))) (numbered-handles Control _ true _) (built-passed _ _ (b .assemble .ensures) (t .if1 .left))
-    (record { is = c .before .before .answer-point .ensures ∙ ap (λ (k : Curve). pointAnswer (trusting (k .points) (k .xs) (k .ys) (k .knots)) (a .t) (a .order) (now (a .out))) made }))
+    let o = c .before .before .before .before .before in
+    let t = o .before in
+    let k = t .before .before in
+    let s = start-of k in
+    let a = s .args in
+    let coords = now (a .coords) in
+    let ks = now (a .knots) in
+    let passed = number-of (sym (k .check-handles .ensures)) ∙ t .if1 .left in
+    let accepted = slices-accepted coords ks passed in
+    let doubles =
+    typed-slices coords ks (accepted .sound .long) (accepted .room) (λ i h. k .before .before .before .shared-slice-known .given i)
+    (λ i h. k .before .before .shared-slice-known2 .given i) (a .t) (subst T (sym (s .good .1 .1 .0 .1)) tt) in
+    point-promised (inSlices coords ks) (slices-sound coords ks) (a .t) doubles (a .order) (now (a .out))
+    (point-answered (inSlices coords ks) (slices-sound coords ks) passed (a .t) (a .order) (now (a .out))
+    (o .orders-slices .ensures ∙ slices-found coords ks passed (a .t) (a .order)) (c .before .before .answer-point .ensures))
 
 pub evaluate-slices-spec : {M : Type 1} → statement M
-evaluate-slices-spec =
-    tie.close (tie.spec (search needs) returns answer-point-requires (search needs) returns-2)
+evaluate-slices-spec = tie.close (tie.spec (search needs) returns (search needs) (search needs) (search needs) returns-2)

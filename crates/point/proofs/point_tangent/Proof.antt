@@ -1,34 +1,40 @@
--- `point::point_tangent` meets its contract: the rules of the record, then the answer.
-use mathlib.Core.Path.{sym, _∙_}
+-- `point::point_tangent` meets its contract: the rules of the record, then the answer; the promises follow from it.
+use mathlib.Core.Path.{sym, _∙_, subst}
 use borrow.Author.Needs.{needs}
+use denote.Ref.{now}
+use lib.Dec.{T}
 use Rattle.refusal.proofs.Rows.{number-of}
-use Rattle.outcome.proofs.Doors.{leaves, refused, after}
-use Rattle.shape.proofs.Trusted.{numbered-shape, trusted}
+use Rattle.shape.proofs.Sound.{rooms-sound}
+use Rattle.hull.proofs.Given.{Doubles}
 use Rattle.curve.specs.Record.{byRecord}
-use Rattle.point.specs.Point.{tangentAnswer}
+use Rattle.point.proofs.Answered.{tangent-refused, tangent-answered}
+use Rattle.point.proofs.Promised.{tangent-promised}
+use Rattle.point.proofs.Typed.{typed}
 use Rattle.point.proofs.point_tangent.Statement.{statement}
 use Rattle.point.proofs.point_tangent.Tie as tie
 
-abbrev start-of : tie.Else1 → tie.Start
-start-of c = c .before .before .before .before .before .before .before .before
+abbrev start-of : tie.After-check → tie.Start
+start-of c = c .before .before .before .before .before .before
+
+doubles : (s : tie.Start) → Doubles (byRecord (s .args .t1) .shape) (s .args .t)
+doubles s = typed (s .args .t1) _ (s .good .0) (s .args .t) (subst T (sym (s .good .1 .0 .1)) tt)
 
 returns : tie.Need-returns
-unfolding tangentAnswer
-returns c = leaves (refused _ _ (c .before .before .check .ensures) (c .if1 .taken))
-
-answer-tangent-requires : tie.Need-answer-tangent-requires
-answer-tangent-requires c κs =
-    let t = c .before .before .before .before .before in
-    trusted _ (byRecord (start-of t .args .t1) .shape) (number-of (sym (t .before .before .check .ensures)) ∙ t .if1 .left)
+returns c =
+    let k = c .before .before in
+    let s = start-of k in
+    tangent-promised _ (rooms-sound _ _ _ _ _) _ (doubles s) (now (s .args .out))
+    (tangent-refused (byRecord (s .args .t1)) (s .args .t) (now (s .args .out)) (k .check .ensures) (c .if1 .taken))
 
 returns-2 : tie.Need-returns-2
-unfolding tangentAnswer
 returns-2 c =
-    let t = c .before .before .before .before .before .before .before .before in
-    leaves
-    (after (byRecord (start-of t .args .t1) .rules) (numbered-shape _ _) (number-of (sym (t .before .before .check .ensures)) ∙ t .if1 .left)
-    (record { is = c .before .before .answer-tangent .ensures }))
+    let o = c .before .before .before .before .before in
+    let t = o .before .before .before .before .before in
+    let k = t .before .before in
+    let s = start-of k in
+    tangent-promised _ (rooms-sound _ _ _ _ _) _ (doubles s) (now (s .args .out))
+    (tangent-answered (byRecord (s .args .t1)) (rooms-sound _ _ _ _ _) (number-of (sym (k .check .ensures)) ∙ t .if1 .left) (s .args .t) (now (s .args .out))
+    (o .orders .ensures) (c .before .before .answer-tangent .ensures))
 
 pub point-tangent-spec : {M : Type 1} → statement M
-point-tangent-spec =
-    tie.close (tie.spec (search needs) returns answer-tangent-requires (search needs) returns-2)
+point-tangent-spec = tie.close (tie.spec (search needs) returns (search needs) (search needs) (search needs) returns-2)

@@ -4,7 +4,7 @@ use mathlib.Core.Path.{sym, ap, _∙_}
 use native.Mathlib.Omega.{arith}
 use lib.ListN.{length}
 use Rattle.sheet_text.proofs.Front.{numbers-long}
-use Rattle.sheet_text.proofs.Sheets.{text-built, work-built}
+use Rattle.sheet_text.proofs.Sheets.{text-built, work-built, promise-built}
 use denote.Ref.{now}
 use Rattle.sheet_text.proofs.answer_sheet.Statement.{statement}
 use Rattle.sheet_text.proofs.answer_sheet.Tie as tie
@@ -26,8 +26,11 @@ returns c =
     let k = b .before .before .before .before .before in
     let p = k .before .before .before in
     let a = p .before .before .before .before .before .before .args in (
-      rw (← (text-built (now (a .s)) (a .x) (now (a .work)) (p .take-numbers .ensures) (k .take-numbers2 .ensures) (b .build .ensures))) (c .before .before .put-built .ensures),
-      work-built (now (a .s)) (a .x) (now (a .work)) (p .take-numbers .ensures) (k .take-numbers2 .ensures) (b .build .ensures),
+      rw (← (text-built (now (a .s)) (a .x) (now (a .work)) (p .take-numbers .ensures) (k .take-numbers2 .ensures) (b .build .ensures))) (c .before .before .put-built .ensures .0),
+      (
+        work-built (now (a .s)) (a .x) (now (a .work)) (p .take-numbers .ensures) (k .take-numbers2 .ensures) (b .build .ensures),
+        promise-built (now (a .s)) (a .x) (now (a .work)) (p .take-numbers .ensures) (k .take-numbers2 .ensures) (b .build .ensures) (c .before .before .put-built .ensures .1),
+      ),
     )
 
 pub answer-sheet-spec : {M : Type 1} → statement M

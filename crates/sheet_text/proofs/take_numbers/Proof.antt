@@ -5,10 +5,9 @@ use Prim.Native.Nat.{_-_, _≤_}
 use native.Mathlib.Omega.{arith}
 use lib.ListN.{length}
 use lib.Ieee.{nan}
-use Rattle.meaning.proofs.Filling.{Filled, empty, filled}
+use Rattle.meaning.proofs.Filling.{Filled, empty, filled, front}
 use Rattle.sheet_read.specs.Number.{doubleAt}
 use Rattle.sheet_read.specs.Grammar.{numberPlace, numbersAt}
-use Rattle.sheet_text.proofs.Front.{front}
 use Rattle.sheet_text.proofs.take_numbers.Statement.{statement}
 use Rattle.sheet_text.proofs.take_numbers.Tie as tie
 

@@ -19,13 +19,13 @@ abbrev μ-loop : tie.MeasureT-loop
 
 returns : tie.Need-returns Inv-loop μ-loop
 returns c =
-    let a = c .before .before .args in
-    (rw (opened (now (a .u)) (a .n) (a .t) (search needs) (search needs), c .if1 .taken), (search needs, search needs))
+    let a = c .before .before .before .args in
+    (rw (opened (now (a .u)) (a .n) (a .t) (search needs) (search needs) (search needs), c .if1 .taken), (search needs, search needs))
 
 returns-2 : tie.Need-returns-2 Inv-loop μ-loop
 returns-2 c =
-    let a = c .before .before .before .before .args in
-    (rw (opened (now (a .u)) (a .n) (a .t) (search needs) (search needs), c .before .before .if1 .left, c .if2 .taken), (search needs, search needs))
+    let a = c .before .before .before .before .before .args in
+    (rw (opened (now (a .u)) (a .n) (a .t) (search needs) (search needs) (search needs), c .before .before .if1 .left, c .if2 .taken), (search needs, search needs))
 
 loop-holds : tie.Need-loop-holds Inv-loop μ-loop
 loop-holds c = (search needs, (search needs, (search needs, begin apart _ width (narrow-falls _ _) _)))
@@ -35,7 +35,7 @@ loop-less c = rw (c .narrowed .ensures .0) (narrow-falls _ _ _ (lt-ltb _ _ (c .b
 
 loop-again : tie.Need-loop-again Inv-loop μ-loop
 loop-again c =
-    let a = c .before .before .before .before .before .before .before .before .args in (
+    let a = c .before .before .before .before .before .before .before .before .before .args in (
       search needs,
       (
         search needs,
@@ -49,8 +49,8 @@ loop-again c =
 
 returns-3 : tie.Need-returns-3 Inv-loop μ-loop
 returns-3 c =
-    let a = c .before .before .before .before .before .before .before .args in (
-      rw (opened (now (a .u)) (a .n) (a .t) (search needs) (search needs), c .before .before .before .before .before .if1 .left, c .before .before .before .if2 .left)
+    let a = c .before .before .before .before .before .before .before .before .args in (
+      rw (opened (now (a .u)) (a .n) (a .t) (search needs) (search needs) (search needs), c .before .before .before .before .before .if1 .left, c .before .before .before .if2 .left)
           (ap (λ (e : Ends). e .lo)
           (end apart (narrow (now (a .u)) (a .t)) width (narrow-falls (now (a .u)) (a .t)) (c .before .before .loop .inv .1 .1 .1) (le-ltb _ _ (c .if3 .left)))),
       (search needs, search needs),

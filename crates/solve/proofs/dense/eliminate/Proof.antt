@@ -1,7 +1,8 @@
 -- `solve::dense::eliminate` meets its contract: the columns below col are eliminated, and the flag is their verdict.
 use Prim.Native.Nat.{_-_}
 use Rattle.meaning.specs.Scalar.{plain}
-use Rattle.solve.specs.Elimination.{columnDone, columnOk, eliminated, eliminatedOk}
+use Rattle.solve.specs.Elimination.{columnDone, eliminated}
+use Rattle.solve.specs.Verdicts.{columnOk, eliminatedOk}
 use Rattle.solve.proofs.Passes.{Pass, begun, further, over}
 use Rattle.solve.proofs.Steps.{column-shaped}
 use borrow.Author.Needs.{needs}

@@ -8,7 +8,9 @@ use lib.Seq.{length-take-le}
 use lib.Ieee.{Float}
 use Rattle.meaning.specs.Scalar.{plain}
 use Rattle.solve.specs.Rows.{flat}
-use Rattle.solve.specs.Elimination.{exchanged, reducedRows, reducedRowsOk, pivot, pivoted, columnDone, columnOk}
+use Rattle.solve.specs.Elimination.{exchanged, reducedRows, pivoted, columnDone}
+use Rattle.solve.specs.Verdicts.{reducedRowsOk, columnOk}
+use Rattle.solve.proofs.Pivots.{best-is}
 use Rattle.solve.proofs.Steps.{pivoted-shaped}
 use borrow.Author.Needs.{needs}
 use Rattle.solve.proofs.dense.eliminate_column.Statement.{statement}
@@ -34,14 +36,14 @@ reduce-rows-requires c κs =
     (h .0, omega (arith, h), omega (arith, h, swapped-at c .swap-rows .kept), whole-row c)
 
 returns : tie.Need-returns
-unfolding pivot pivoted columnDone columnOk
+unfolding pivoted columnDone columnOk
 returns c =
     let p = c .before .before .before in
     let x = swapped-at p in
     let a = start-of p .args in
     λ M rest e sh.
     let N = pivoted plain (a .m) (a .col) M in
-    let moved = x .swap-rows .ensures M rest e sh ∙ ap (λ (j : ℕ). flat (exchanged M (a .col) j) rest) (x .before .before .find-pivot .ensures .1 M rest e sh) in
+    let moved = x .swap-rows .ensures M rest e sh ∙ ap (λ (j : ℕ). flat (exchanged M (a .col) j) rest) (x .before .before .find-pivot .ensures .1 M rest e sh ∙ best-is plain (a .m) (a .col) M (start-of p .pre .0)) in
     let sh′ = pivoted-shaped plain (a .m) (a .s) (a .col) M (start-of p .pre .0) sh in
     let row = p .before .before .load-at .ensures .1 N rest moved sh′ in
     let done = c .before .before .reduce-rows .ensures N rest moved sh′ in (

@@ -9,7 +9,8 @@ use lib.Ieee.{Float}
 use Rattle.meaning.specs.Scalar.{plain}
 use Rattle.meaning.specs.Search.{every}
 use Rattle.solve.specs.Rows.{flat, Shaped, ofRows}
-use Rattle.solve.specs.Elimination.{reduced, reducedOk, reducedRows, reducedRowsOk, rowFine}
+use Rattle.solve.specs.Elimination.{reduced, reducedRows}
+use Rattle.solve.specs.Verdicts.{reducedOk, reducedRowsOk, rowFine}
 use Rattle.meaning.proofs.Every.{every-next}
 use Rattle.solve.proofs.Lists.{blend, blend-all}
 use Rattle.solve.proofs.Flat.{shaped-set}

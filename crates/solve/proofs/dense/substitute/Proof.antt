@@ -2,7 +2,8 @@
 use Prim.Native.Nat.{_-_}
 use native.Mathlib.Omega.{arith}
 use Rattle.meaning.specs.Scalar.{plain}
-use Rattle.solve.specs.Substitution.{answeredUp, answeredUpOk, backed, backedOk}
+use Rattle.solve.specs.Substitution.{answeredUp, backed}
+use Rattle.solve.specs.Verdicts.{answeredUpOk, backedOk}
 use Rattle.solve.proofs.Passes.{Pass, begun, further, over}
 use Rattle.solve.proofs.Answers.{answered-shaped}
 use borrow.Author.Needs.{needs}

@@ -5,7 +5,8 @@ use mathlib.Core.Path.{_∙_}
 use lib.ListN.{length-set}
 use denote.Ref.{now}
 use Rattle.meaning.specs.Scalar.{plain}
-use Rattle.solve.specs.Substitution.{answered, answeredOk}
+use Rattle.solve.specs.Substitution.{answered}
+use Rattle.solve.specs.Verdicts.{answeredOk}
 use Rattle.solve.proofs.Lists.{row-le}
 use Rattle.solve.proofs.Answers.{write-two, answer-value}
 use borrow.Author.Needs.{needs}

@@ -11,7 +11,7 @@ use Rattle.meaning.specs.Loops.{turns}
 use Rattle.meaning.specs.Table.{at2}
 use Rattle.meaning.proofs.For.{At, first, next, last}
 use Rattle.solve.specs.Rows.{ofRows}
-use Rattle.solve.specs.Elimination.{better, bestAmong}
+use Rattle.solve.specs.Best.{better, bestAmong}
 use Rattle.solve.proofs.Lists.{row-le}
 use Rattle.solve.proofs.Flat.{read-cell}
 use borrow.Author.Needs.{needs}

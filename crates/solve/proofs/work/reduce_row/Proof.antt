@@ -1,6 +1,7 @@
 -- `solve::work::reduce_row` meets its contract: a case for the row that is skipped and one for the row that is reduced.
 use mathlib.Core.Path.{_∙_}
-use Rattle.solve.specs.Elimination.{reduced, reducedOk}
+use Rattle.solve.specs.Elimination.{reduced}
+use Rattle.solve.specs.Verdicts.{reducedOk}
 use borrow.Author.Needs.{needs}
 use Rattle.solve.proofs.work.reduce_row.Statement.{statement}
 use Rattle.solve.proofs.work.reduce_row.Tie as tie

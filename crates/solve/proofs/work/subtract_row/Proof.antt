@@ -7,7 +7,8 @@ use lib.ListN.{length}
 use lib.Ieee.Scale.{finite}
 use Rattle.meaning.specs.Scalar.{plain}
 use Rattle.meaning.specs.Search.{every}
-use Rattle.solve.specs.Elimination.{subtracted, subtractedOk, fineAt}
+use Rattle.solve.specs.Elimination.{subtracted}
+use Rattle.solve.specs.Verdicts.{subtractedOk, fineAt}
 use Rattle.meaning.proofs.Every.{spoilt-next}
 use Rattle.solve.proofs.Lists.{blend, blend-all}
 use Rattle.solve.proofs.Steps.{sub-length, sub-start, sub-value, sub-turn, fine-start, fine-at}

@@ -1,2 +1,0 @@
--- Demand 3 (docs/RULES.md) from what a door's contract allows.
-pub mod Promised

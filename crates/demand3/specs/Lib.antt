@@ -1,2 +1,0 @@
--- Demand 3 (docs/RULES.md) for the curve record.
-pub mod Demand

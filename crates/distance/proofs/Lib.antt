@@ -1,0 +1,2 @@
+-- What a square tells of its distance.
+pub mod Squares

@@ -1,0 +1,33 @@
+-- `evaluate::window` meets its contract: a turn copies one knot.
+use mathlib.Core.Path.{refl}
+use Prim.Native.Nat.{_+_, _-_}
+use lib.ListN.{set}
+use Rattle.meaning.specs.Scalar.{plain}
+use Rattle.meaning.specs.Table.{at1}
+use Rattle.meaning.proofs.For.{At, first, next, last}
+use Rattle.evaluate.specs.Piece.{around}
+use borrow.Author.Needs.{needs}
+use Rattle.evaluate.proofs.window.Statement.{statement}
+use Rattle.evaluate.proofs.window.Tie as tie
+
+abbrev Inv-loop : tie.InvT-loop
+Inv-loop u i w₀ j₀ w j = At 0 6 (λ k l. set l (k + 1) (at1 plain u (i - 2 + k))) w₀ j w
+
+abbrev μ-loop : tie.MeasureT-loop
+μ-loop u i w₀ j₀ w j = 6 - j
+
+loop-holds : tie.Need-loop-holds Inv-loop μ-loop
+loop-holds c = first (search needs)
+
+loop-again : tie.Need-loop-again Inv-loop μ-loop
+loop-again c = next (c .before .before .loop .inv) (search needs) refl
+
+returns : tie.Need-returns Inv-loop μ-loop
+unfolding around
+returns c = last (c .before .loop .inv) (search needs)
+
+pub window-spec : {M : Type 1} → statement M
+window-spec =
+    tie.close
+    (tie.spec Inv-loop μ-loop loop-holds (search needs) (search needs) (search needs) (search needs) (search needs)
+    (search needs) (search needs) (search needs) (search needs) loop-again returns)

@@ -1,0 +1,2 @@
+-- An answered interval is one of two cases.
+pub mod Apart

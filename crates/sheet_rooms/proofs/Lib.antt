@@ -1,0 +1,3 @@
+-- Laws of the rooms.
+pub mod Works
+pub mod Rooms

@@ -1,0 +1,2 @@
+-- What the sheet program answers.
+pub mod Reply

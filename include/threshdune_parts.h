@@ -78,16 +78,19 @@ uint64_t threshdune_plane_sub(double ax, double ay, double bx, double by, double
 uint64_t threshdune_plane_scale(double ax, double ay, double k, double *out, size_t out_len);
 /* a over its length; (1, 0) where its length, multiplied by itself, is below 1e-24. */
 uint64_t threshdune_plane_unit(double ax, double ay, double *out, size_t out_len);
-/* The inner product, and the length. */
+/* a turned by 90 degrees counter-clockwise: -ay and ax, a zero's sign with the others. */
+uint64_t threshdune_plane_rot90(double ax, double ay, double *out, size_t out_len);
+/* The inner product; the outer product, ax * by - ay * bx; the length. */
 double threshdune_plane_dot(double ax, double ay, double bx, double by);
+double threshdune_plane_cross(double ax, double ay, double bx, double by);
 double threshdune_plane_norm(double ax, double ay);
 
 /* ---- vectors with partials
  *
  * A vector with partials is given as a slice, 28 doubles for x and then 28 for y, each a value and
  * its partials, and as a slice of their two counts; a missing count reads as 0.
- * Room: 56 doubles in `out`, 2 counts in `counts`; for dot and norm, which answer one value with
- * partials, 28 doubles and a `count`. Refusal: 14.
+ * Room: 56 doubles in `out`, 2 counts in `counts`; for dot, cross and norm, which answer one value
+ * with partials, 28 doubles and a `count`. Refusal: 14.
  */
 
 uint64_t threshdune_plane_partials_add(const double *a, size_t a_len, const uint64_t *a_counts,
@@ -106,10 +109,17 @@ uint64_t threshdune_plane_partials_scale(const double *a, size_t a_len, const ui
 uint64_t threshdune_plane_partials_unit(const double *a, size_t a_len, const uint64_t *a_counts,
                                         size_t a_counts_len, double *out, size_t out_len,
                                         uint64_t *counts, size_t counts_len);
+uint64_t threshdune_plane_partials_rot90(const double *a, size_t a_len, const uint64_t *a_counts,
+                                         size_t a_counts_len, double *out, size_t out_len,
+                                         uint64_t *counts, size_t counts_len);
 uint64_t threshdune_plane_partials_dot(const double *a, size_t a_len, const uint64_t *a_counts,
                                        size_t a_counts_len, const double *b, size_t b_len,
                                        const uint64_t *b_counts, size_t b_counts_len, double *out,
                                        size_t out_len, uint64_t *count);
+uint64_t threshdune_plane_partials_cross(const double *a, size_t a_len, const uint64_t *a_counts,
+                                         size_t a_counts_len, const double *b, size_t b_len,
+                                         const uint64_t *b_counts, size_t b_counts_len, double *out,
+                                         size_t out_len, uint64_t *count);
 uint64_t threshdune_plane_partials_norm(const double *a, size_t a_len, const uint64_t *a_counts,
                                         size_t a_counts_len, double *out, size_t out_len,
                                         uint64_t *count);

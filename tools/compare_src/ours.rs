@@ -9,6 +9,7 @@ mod c {
         pub fn threshdune_at_least(x: f64, y: f64) -> u8;
         pub fn threshdune_clamp(x: f64, lo: f64, hi: f64) -> f64;
         pub fn threshdune_plane_dot(ax: f64, ay: f64, bx: f64, by: f64) -> f64;
+        pub fn threshdune_plane_cross(ax: f64, ay: f64, bx: f64, by: f64) -> f64;
         pub fn threshdune_plane_norm(ax: f64, ay: f64) -> f64;
     }
 }
@@ -39,6 +40,10 @@ pub fn plane_dot(a: [f64; 2], b: [f64; 2]) -> f64 {
     unsafe { c::threshdune_plane_dot(a[0], a[1], b[0], b[1]) }
 }
 
+pub fn plane_cross(a: [f64; 2], b: [f64; 2]) -> f64 {
+    unsafe { c::threshdune_plane_cross(a[0], a[1], b[0], b[1]) }
+}
+
 pub fn plane_norm(a: [f64; 2]) -> f64 {
     unsafe { c::threshdune_plane_norm(a[0], a[1]) }
 }
@@ -67,11 +72,26 @@ shape!(Two, (a: *const f64, a_len: usize, a_count: u64, b: *const f64, b_len: us
 shape!(Plane, (ax: f64, ay: f64, bx: f64, by: f64, out: *mut f64, out_len: usize),
     threshdune_plane_add threshdune_plane_sub);
 
+// One vector to another.
+shape!(PlaneOne, (ax: f64, ay: f64, out: *mut f64, out_len: usize),
+    threshdune_plane_unit threshdune_plane_rot90);
+
 // Two vectors with partials to one.
 shape!(PlanePartials, (a: *const f64, a_len: usize, a_counts: *const u64, a_counts_len: usize,
                        b: *const f64, b_len: usize, b_counts: *const u64, b_counts_len: usize,
                        out: *mut f64, out_len: usize, counts: *mut u64, counts_len: usize),
     threshdune_plane_partials_add threshdune_plane_partials_sub);
+
+// One vector with partials to another.
+shape!(PlanePartialsOne, (a: *const f64, a_len: usize, a_counts: *const u64, a_counts_len: usize,
+                          out: *mut f64, out_len: usize, counts: *mut u64, counts_len: usize),
+    threshdune_plane_partials_unit threshdune_plane_partials_rot90);
+
+// Two vectors with partials to a value.
+shape!(PlaneProduct, (a: *const f64, a_len: usize, a_counts: *const u64, a_counts_len: usize,
+                      b: *const f64, b_len: usize, b_counts: *const u64, b_counts_len: usize,
+                      out: *mut f64, out_len: usize, count: *mut u64),
+    threshdune_plane_partials_dot threshdune_plane_partials_cross);
 
 unsafe extern "C" {
     pub fn threshdune_partials_var(
@@ -95,7 +115,6 @@ unsafe extern "C" {
     pub fn threshdune_partials_is_fine(a: *const f64, a_len: usize, a_count: u64) -> u8;
 
     pub fn threshdune_plane_scale(ax: f64, ay: f64, k: f64, out: *mut f64, out_len: usize) -> u64;
-    pub fn threshdune_plane_unit(ax: f64, ay: f64, out: *mut f64, out_len: usize) -> u64;
 
     pub fn threshdune_plane_partials_scale(
         a: *const f64,
@@ -109,29 +128,6 @@ unsafe extern "C" {
         out_len: usize,
         counts: *mut u64,
         counts_len: usize,
-    ) -> u64;
-    pub fn threshdune_plane_partials_unit(
-        a: *const f64,
-        a_len: usize,
-        a_counts: *const u64,
-        a_counts_len: usize,
-        out: *mut f64,
-        out_len: usize,
-        counts: *mut u64,
-        counts_len: usize,
-    ) -> u64;
-    pub fn threshdune_plane_partials_dot(
-        a: *const f64,
-        a_len: usize,
-        a_counts: *const u64,
-        a_counts_len: usize,
-        b: *const f64,
-        b_len: usize,
-        b_counts: *const u64,
-        b_counts_len: usize,
-        out: *mut f64,
-        out_len: usize,
-        count: *mut u64,
     ) -> u64;
     pub fn threshdune_plane_partials_norm(
         a: *const f64,

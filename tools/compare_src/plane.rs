@@ -9,10 +9,20 @@ use original::spline::P2;
 type Vector = [f64; 2];
 type Plane = P2<f64>;
 type Binary = (&'static str, ours::Plane, fn(&Plane, &Plane) -> Plane);
+type Product = (
+    &'static str,
+    fn(Vector, Vector) -> f64,
+    fn(&Plane, &Plane) -> f64,
+);
 
 const BINARY: [Binary; 2] = [
     ("add", ours::threshdune_plane_add, P2::add),
     ("sub", ours::threshdune_plane_sub, P2::sub),
+];
+
+const PRODUCTS: [Product; 2] = [
+    ("dot", ours::plane_dot, P2::dot),
+    ("cross", ours::plane_cross, P2::cross),
 ];
 
 /// Below this squared length the original sees no direction.
@@ -27,11 +37,12 @@ pub fn run(random: &mut Random, rounds: u64) -> Tally {
             0 => a,
             _ => [(); 2].map(|_| random.double(flavour)),
         };
-        match random.below(6) {
+        match random.below(8) {
             op @ 0..2 => binary(&BINARY[op as usize], a, b, random, &mut tally),
             2 => scale(a, b[0], random, &mut tally),
-            3 => dot(a, b, &mut tally),
-            4 => norm(for_length(random, a), &mut tally),
+            op @ 3..5 => product(&PRODUCTS[op as usize - 3], a, b, &mut tally),
+            5 => norm(for_length(random, a), &mut tally),
+            6 => rot90(a, random, &mut tally),
             _ => unit(for_length(random, a), random, &mut tally),
         }
     }
@@ -73,12 +84,21 @@ fn unit(a: Vector, random: &mut Random, tally: &mut Tally) {
     room.judge(tally, refusal, of(a).unit(), || format!("unit {}", hex(&a)));
 }
 
-fn dot(a: Vector, b: Vector, tally: &mut Tally) {
-    let (found, wanted) = (ours::plane_dot(a, b), of(a).dot(&of(b)));
+fn rot90(a: Vector, random: &mut Random, tally: &mut Tally) {
+    let mut room = Room::draw(random);
+    let out = room.out.as_mut_ptr();
+    let refusal = unsafe { ours::threshdune_plane_rot90(a[0], a[1], out, room.len) };
+    room.judge(tally, refusal, of(a).rot90(), || {
+        format!("rot90 {}", hex(&a))
+    });
+}
+
+fn product((name, ours, theirs): &Product, a: Vector, b: Vector, tally: &mut Tally) {
+    let (found, wanted) = (ours(a, b), theirs(&of(a), &of(b)));
     tally.case(same(found, wanted), || {
         let (a, b) = (hex(&a), hex(&b));
         format!(
-            "dot {a} and {b}: {}, wanted {}",
+            "{name} {a} and {b}: {}, wanted {}",
             hex(&[found]),
             hex(&[wanted])
         )

@@ -14,10 +14,21 @@ type Binary = (
     fn(&Plane, &Plane) -> Plane,
 );
 
+type Product = (&'static str, ours::PlaneProduct, fn(&Plane, &Plane) -> Dv);
+type One = (&'static str, ours::PlanePartialsOne, fn(&Plane) -> Plane);
+
 const BINARY: [Binary; 2] = [
     ("add", ours::threshdune_plane_partials_add, P2::add),
     ("sub", ours::threshdune_plane_partials_sub, P2::sub),
 ];
+
+const PRODUCTS: [Product; 2] = [
+    ("dot", ours::threshdune_plane_partials_dot, P2::dot),
+    ("cross", ours::threshdune_plane_partials_cross, P2::cross),
+];
+
+const UNIT: One = ("unit", ours::threshdune_plane_partials_unit, P2::unit);
+const ROT90: One = ("rot90", ours::threshdune_plane_partials_rot90, P2::rot90);
 
 pub fn run(random: &mut Random, rounds: u64) -> Tally {
     let mut tally = Tally::default();
@@ -25,19 +36,24 @@ pub fn run(random: &mut Random, rounds: u64) -> Tally {
         let flavour = random.flavour();
         let a = Lent::draw(random, flavour, 2);
         a.kinds(&mut tally);
-        match random.below(6) {
-            op @ 0..3 => {
+        match random.below(8) {
+            op @ 0..4 => {
                 let other = second(random, flavour, &a);
                 // an operand may also be the very same slice
                 let b = if random.once_in(8) { &a } else { &other };
                 match BINARY.get(op as usize) {
                     Some(sum) => binary(sum, &a, b, random, &mut tally),
-                    None => dot(&a, b, random, &mut tally),
+                    None => product(&PRODUCTS[op as usize - 2], &a, b, random, &mut tally),
                 }
             }
-            3 => scale(&a, &Lent::draw(random, flavour, 1), random, &mut tally),
-            4 => norm(&with_length(random, a), random, &mut tally),
-            _ => unit(&with_length(random, a), random, &mut tally),
+            4 => scale(&a, &Lent::draw(random, flavour, 1), random, &mut tally),
+            5 => norm(&with_length(random, a), random, &mut tally),
+            6 => one(&ROT90, &a, random, &mut tally),
+            _ => {
+                let a = with_length(random, a);
+                square_kind(of(&a).dot(&of(&a)).v, &mut tally);
+                one(&UNIT, &a, random, &mut tally);
+            }
         }
     }
     tally
@@ -114,10 +130,10 @@ fn scale(a: &Lent, k: &Lent, random: &mut Random, tally: &mut Tally) {
     });
 }
 
-fn unit(a: &Lent, random: &mut Random, tally: &mut Tally) {
+fn one((name, ours, theirs): &One, a: &Lent, random: &mut Random, tally: &mut Tally) {
     let mut room = Room::draw(random, 2);
     let refusal = unsafe {
-        ours::threshdune_plane_partials_unit(
+        ours(
             a.slice().as_ptr(),
             a.slice().len(),
             a.counts().as_ptr(),
@@ -128,15 +144,20 @@ fn unit(a: &Lent, random: &mut Random, tally: &mut Tally) {
             room.counts_len,
         )
     };
-    square_kind(of(a).dot(&of(a)).v, tally);
-    let P2 { x, y } = of(a).unit();
-    room.judge(tally, refusal, &[x, y], || format!("unit {}", a.tell()));
+    let P2 { x, y } = theirs(&of(a));
+    room.judge(tally, refusal, &[x, y], || format!("{name} {}", a.tell()));
 }
 
-fn dot(a: &Lent, b: &Lent, random: &mut Random, tally: &mut Tally) {
+fn product(
+    (name, ours, theirs): &Product,
+    a: &Lent,
+    b: &Lent,
+    random: &mut Random,
+    tally: &mut Tally,
+) {
     let mut room = Room::draw(random, 1);
     let refusal = unsafe {
-        ours::threshdune_plane_partials_dot(
+        ours(
             a.slice().as_ptr(),
             a.slice().len(),
             a.counts().as_ptr(),
@@ -150,8 +171,8 @@ fn dot(a: &Lent, b: &Lent, random: &mut Random, tally: &mut Tally) {
             room.counts.as_mut_ptr(),
         )
     };
-    room.judge(tally, refusal, &[of(a).dot(&of(b))], || {
-        format!("dot {} and {}", a.tell(), b.tell())
+    room.judge(tally, refusal, &[theirs(&of(a), &of(b))], || {
+        format!("{name} {} and {}", a.tell(), b.tell())
     });
 }
 

@@ -2,6 +2,7 @@
 //!
 //!     sheets answer                        a sheet from standard input, its answer to standard output: the oracle's sheet mode
 //!     sheets record WHAT                   the recorded sheets, or their answers, to standard output
+//!     sheets longest                       the longest of them, to standard output
 //!     sheets draw WHAT SEED COUNT          the same of so many random sheets; those longer than the program has room for are left out
 //!     sheets compare SEED COUNT COMMAND..  runs the command on each of those; status 1 if an answer differs
 //!
@@ -37,6 +38,7 @@ fn main() {
     let done = match words[..] {
         ["answer"] => answer(),
         ["record", what] => write(what, recorded::sheets().into_iter()),
+        ["longest"] => io::stdout().write_all(&text::text(&recorded::longest())),
         ["draw", what, seed, count] => {
             let (seed, count) = (number(seed), number(count));
             let sheets = (0..count).map(|k| draw::drawn(seed, k).text);
@@ -49,7 +51,7 @@ fn main() {
             exit(compare::run(number(seed), number(count), command))
         }
         _ => fail(
-            "usage: sheets answer | record WHAT | draw WHAT SEED COUNT | compare SEED COUNT COMMAND..",
+            "usage: sheets answer | record WHAT | longest | draw WHAT SEED COUNT | compare SEED COUNT COMMAND..",
         ),
     };
     done.unwrap_or_else(|error| fail(&error.to_string()));

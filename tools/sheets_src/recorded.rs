@@ -150,7 +150,8 @@ fn rising(count: usize) -> Vec<f64> {
     (0..count).map(knot).collect()
 }
 
-fn longest() -> Sheet {
+/// The longest of all.
+pub fn longest() -> Sheet {
     let parameter = |k: usize| k as f64 / 16.0 - 1.0;
     let sheet = Sheet {
         knots: rising(MOST_KNOTS),
@@ -159,6 +160,13 @@ fn longest() -> Sheet {
     };
     assert_eq!(text(&sheet).len(), LONGEST);
     sheet
+}
+
+/// The longest that is fitted: 64 points, for which the work buffer is used to its end.
+fn longest_fit() -> Sheet {
+    let parameter = |k: usize| (k as f64 - 16.0) / 992.0;
+    let at: Vec<f64> = (0..MOST_PARAMETERS).map(parameter).collect();
+    curve(true, 64, &at)
 }
 
 fn limits() -> Vec<Sheet> {
@@ -185,6 +193,7 @@ fn limits() -> Vec<Sheet> {
     all.push(curve(false, 4, &[]));
     all.push(curve(true, 2, &[]));
     all.push(longest());
+    all.push(longest_fit());
     all.push(curve(true, 2, &[0.5; MOST_PARAMETERS + 1]));
     all
 }

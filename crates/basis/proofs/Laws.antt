@@ -17,11 +17,12 @@ use Rattle.basis.specs.Basis.{Orders, Scaling, noOrders, valuesOf, order
 module _ {A : Type 0} (o : Ops A) where
   -- ---- the table
 
-  pub column-turn : (left right : List A) (j r : ℕ) (s : Column A) {c : Cell A}
+  pub column-turn : (left right : List A) (j r : ℕ) (s : Column A) {c : Cell A} {q : List (List A)}
       → c ≡ cellOf o (at1 o right (r + 1)) (at1 o left (j - r)) (at2 o (s .ndu) r (j - 1)) (s .saved)
-      → record { ndu = put2 (put2 (s .ndu) j r (c .gap)) r j (c .value); saved = c .saved } ≡ columnTurn o left right j r s
+      → q ≡ put2 (put2 (s .ndu) j r (c .gap)) r j (c .value)
+      → record { ndu = q; saved = c .saved } ≡ columnTurn o left right j r s
   unfolding columnTurn
-  column-turn left right j r s e = rw e
+  column-turn left right j r s e f = rw f rw e
 
   pub column-of : (left right : List A) (j : ℕ) (ndu : List (List A)) (s : Column A)
       → s ≡ run 0 j (columnTurn o left right j) (record { ndu = ndu; saved = o .cst zero64 }) → put2 (s .ndu) j j (s .saved) ≡ columnOf o left right j ndu

@@ -2,4 +2,3 @@
 pub mod Triangle
 pub mod Derivatives
 pub mod Basis
-pub mod View

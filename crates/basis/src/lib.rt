@@ -1,2 +1,1 @@
-// The cubic B-spline basis on a span, with its derivatives: algorithm A2.3 of The NURBS Book on doubles.
-pub mod plain;
+// The cubic B-spline basis on a span, with its derivatives: what it is, and the laws that both copies' proofs cite. There is no code here.

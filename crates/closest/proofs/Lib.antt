@@ -6,3 +6,4 @@ pub mod Judged
 pub mod Least
 pub mod Started
 pub mod Nans
+pub mod Each

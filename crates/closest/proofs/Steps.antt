@@ -9,12 +9,15 @@ use Rattle.meaning.specs.Scalar.{plain, zero64}
 use Rattle.meaning.specs.Table.{at1}
 use Rattle.meaning.specs.Number.{sizeOf, clampOf}
 use Rattle.span.specs.Halving.{halvedOf}
+use Rattle.knots.proofs.Sorted.{front}
 use Rattle.knots.proofs.Accepted.{Accepted}
 use Rattle.span.proofs.Spans.{accepted-span}
 use Rattle.plane.specs.Vector.{Vector, subV, dotV}
 use Rattle.shape.specs.Shape.{Shape}
 use Rattle.evaluate.specs.Point.{ordersOf}
+use Rattle.evaluate.specs.Near.{pointNear}
 use Rattle.evaluate.proofs.Places.{same-span}
+use Rattle.evaluate.proofs.Near.{near-is}
 use Rattle.point.specs.Point.{pointOrders}
 use Rattle.distance.specs.Distance.{squareOf, distanceOf}
 use Rattle.closest.specs.Search.{orderIn, still, from, to, distanceAt, slopeAt, roundOf}
@@ -29,17 +32,21 @@ module _ (c : Shape Float) (good : Accepted (take (c .n + 4) (c .knots)) (c .n))
   orders-are t nd = same-span plain c t nd (λ x. accepted-span (c .knots) (c .n) x good)
 
   module _ (p : Vector Float) (t : Float) where
-    module _ {at : List Float} (e : at ≡ ordersOf plain (halvedOf (c .knots) (c .n)) c t 0) where
-      point-is : orderIn at 0 ≡ orderIn (pointOrders c t 0) 0
-      point-is = ap (λ (l : List Float). orderIn l 0) (e ∙ orders-are t 0)
+    -- the point near whatever span was tried
+    module _ (i : ℕ) {v : Vector Float} (e : v ≡ pointNear c t i) where
+      point-is : v ≡ orderIn (pointOrders c t 0) 0
+      point-is =
+          e
+          ∙ near-is c (good .four) (good .room) (front (c .knots) (c .n) (good .sound .rises)) t i
+          ∙ ap (λ (l : List Float). orderIn l 0) (orders-are t 0)
 
-      pub square-is : {s : Float} → s ≡ squareOf (orderIn at 0) p → s ≡ squareAt c p t
+      pub square-is : {s : Float} → s ≡ squareOf v p → s ≡ squareAt c p t
       unfolding squareAt
-      square-is q = q ∙ ap (λ (v : Vector Float). squareOf v p) point-is
+      square-is q = q ∙ ap (λ (w : Vector Float). squareOf w p) point-is
 
-      pub distance-is : {d : Float} → d ≡ distanceOf (orderIn at 0) p → d ≡ distanceAt c p t
+      pub distance-is : {d : Float} → d ≡ distanceOf v p → d ≡ distanceAt c p t
       unfolding distanceAt
-      distance-is q = q ∙ ap (λ (v : Vector Float). distanceOf v p) point-is
+      distance-is q = q ∙ ap (λ (w : Vector Float). distanceOf w p) point-is
 
     pub slope-is : {at : List Float} {w : Vector Float} {f s : Float} → at ≡ ordersOf plain (halvedOf (c .knots) (c .n)) c t 2 → w ≡ subV plain (orderIn at 0) p
         → f ≡ dotV plain w (orderIn at 1) → s ≡ dotV plain (orderIn at 1) (orderIn at 1)

@@ -2,3 +2,4 @@
 pub mod Nearest
 pub mod Search
 pub mod Sampling
+pub mod Many

@@ -1,18 +1,27 @@
 // The closest parameter: the nearest of many samples, made better by Newton's rounds.
 ghost use mathlib.Core.Path.{_≡_};
 ghost use Prim.Native.Nat.{_+_, _<_};
-ghost use lib.ListN.{take};
+ghost use lib.ListN.{length, getD, set, take};
+ghost use Rattle.meaning.specs.Scalar.{plain};
+ghost use Rattle.meaning.specs.Table.{at1};
+ghost use Rattle.meaning.specs.Search.{listed};
 ghost use Rattle.knots.proofs.Accepted.{Accepted};
 ghost use Rattle.plane.specs.View.{view};
 ghost use Rattle.outcome.specs.Told.{told};
+ghost use Rattle.shape.specs.Shape.{pointsIn};
 ghost use Rattle.shape.specs.Offered.{inSlices};
 ghost use Rattle.shape.specs.Trusting.{trusting};
 ghost use Rattle.curve.specs.Record.{byRecord};
+ghost use Rattle.samples.specs.Samples.{sampleAt, pairSamples};
 ghost use Rattle.closest.specs.Search.{slopeAt, roundOf, newtonFrom, closestAnswer};
-ghost use Rattle.closest.specs.Sampling.{sampled, bestSample};
+ghost use Rattle.many.specs.Many.{many};
+ghost use Rattle.many.proofs.Asked.{Asked};
+ghost use Rattle.closest.specs.Many.{Room, eachFound, closestMany};
+ghost use Rattle.closest.specs.Sampling.{through, sampled, bestSample};
 use curve::Curve;
 use outcome::Told;
 use plane::P2;
+use refusal::Refusal;
 
 // ---- the samples
 
@@ -24,7 +33,7 @@ struct Best {
     fine: bool,
 }
 
-// The nearest, with the sample at t. Only a smaller distance takes its place: of equal ones the first stays. A square that is not smaller has no smaller
+// The nearest, with the sample at t, whose span is i or another. Only a smaller distance takes its place: of equal ones the first stays. A square that is not smaller has no smaller
 // root, so none is taken of it; a square below infinity has a finite root.
 fn sample<'a>(
     u: &'a [f64; 70],
@@ -33,13 +42,13 @@ fn sample<'a>(
     ys: &'a [f64; 66],
     p: P2,
     t: f64,
+    i: usize,
     b: Best,
 ) -> Best
     requires { ⌜ Accepted (take (n + 4) (now u)) n ⌝ }
     ensures { λ r. ⌜ r ≡ sampled (record { n = n; xs = now (xs .entry); ys = now (ys .entry); knots = now (u .entry) }) (view p) b t ⌝ }
 {
-    let at = evaluate::orders(u, n, xs, ys, t, 0);
-    let c = P2 { x: at[0], y: at[1] };
+    let c = evaluate::point_near(u, n, xs, ys, t, i);
     let square = distance::square(c, p);
     let infinite = f64::from_bits(0x7ff0_0000_0000_0000);
     let fine = number::both(b.fine, square < infinite);
@@ -59,13 +68,56 @@ fn sample<'a>(
     stays
 }
 
-// The nearest of all samples. It begins at infinity, so that the first finite distance is taken.
+// The nearest, with the 16 samples between knot i and the next.
+fn sample_span<'a>(
+    u: &'a [f64; 70],
+    n: usize,
+    xs: &'a [f64; 66],
+    ys: &'a [f64; 66],
+    p: P2,
+    i: usize,
+    b: Best,
+) -> Best
+    requires { ⌜ Accepted (take (n + 4) (now u)) n ⌝ ∗ ⌜ i < n + 3 ⌝ }
+    ensures { λ r. ⌜ r ≡ through (sampled (record { n = n; xs = now (xs .entry); ys = now (ys .entry); knots = now (u .entry) }) (view p))
+        (listed 0 16 (sampleAt (at1 plain (now (u .entry)) i) (at1 plain (now (u .entry)) (i + 1)) 16)) b ⌝ }
+{
+    let w0 = u[i];
+    let w1 = u[i + 1];
+    let mut best = b;
+    for s in 0..16 {
+        let t = samples::sample_at(w0, w1, 16, s);
+        best = sample(u, n, xs, ys, p, t, i, best);
+    }
+    best
+}
+
+// The same where the next knot lies above knot i; there are no samples where it does not.
+fn sample_pair<'a>(
+    u: &'a [f64; 70],
+    n: usize,
+    xs: &'a [f64; 66],
+    ys: &'a [f64; 66],
+    p: P2,
+    i: usize,
+    b: Best,
+) -> Best
+    requires { ⌜ Accepted (take (n + 4) (now u)) n ⌝ ∗ ⌜ i < n + 3 ⌝ }
+    ensures { λ r. ⌜ r ≡ through (sampled (record { n = n; xs = now (xs .entry); ys = now (ys .entry); knots = now (u .entry) }) (view p))
+        (pairSamples (now (u .entry)) 16 i) b ⌝ }
+{
+    if u[i + 1] > u[i] {
+        return sample_span(u, n, xs, ys, p, i, b);
+    }
+    b
+}
+
+// The nearest of all samples, those of each pair of knots and then the domain's end, which lies in no span. It begins at infinity, so that the first
+// finite distance is taken.
 fn sample_all<'a>(u: &'a [f64; 70], n: usize, xs: &'a [f64; 66], ys: &'a [f64; 66], p: P2) -> Best
     requires { ⌜ Accepted (take (n + 4) (now u)) n ⌝ }
     ensures { λ r. ⌜ r ≡ bestSample (record { n = n; xs = now (xs .entry); ys = now (ys .entry); knots = now (u .entry) }) (view p) ⌝ }
 {
-    let mut room = [0.0; 1105];
-    let count = samples::walk(n, u, 16, &mut room);
     let infinite = f64::from_bits(0x7ff0_0000_0000_0000);
     let mut best = Best {
         t: u[0],
@@ -73,10 +125,11 @@ fn sample_all<'a>(u: &'a [f64; 70], n: usize, xs: &'a [f64; 66], ys: &'a [f64; 6
         d: infinite,
         fine: true,
     };
-    for k in 0..count {
-        best = sample(u, n, xs, ys, p, room[k], best);
+    let pairs = n + 3;
+    for i in 0..pairs {
+        best = sample_pair(u, n, xs, ys, p, i, best);
     }
-    best
+    sample(u, n, xs, ys, p, u[pairs], n, best)
 }
 
 // ---- Newton's rounds
@@ -216,4 +269,105 @@ pub fn closest_slices(coords: &[f64], knots: &[f64], px: f64, py: f64) -> Told
         &made.knots,
         P2 { x: px, y: py },
     )
+}
+
+// ---- many points in one call
+
+// What was found for point k, in its place, and its refusal. The place of a refused one stays as it was.
+fn answer_at(found: Told, k: usize, out: &mut [f64], refusals: &mut [u64])
+    requires { ⌜ k < length (now out) ⌝ ∗ ⌜ k < length (now refusals) ⌝ }
+    ensures { λ _. ⌜ now (out .exit) ≡ set (now (out .entry)) k (getD (told found .values) 0 (at1 plain (now (out .entry)) k)) ⌝
+        ∗ ⌜ now (refusals .exit) ≡ set (now (refusals .entry)) k (told found .refusal .number) ⌝ }
+{
+    match found {
+        Told::Is(t) => {
+            out[k] = t;
+            refusals[k] = 0;
+        }
+        Told::Refused(r) => {
+            refusals[k] = r.number;
+        }
+    }
+}
+
+// Every point's search on an accepted curve.
+fn search_each<'a>(
+    n: usize,
+    xs: &'a [f64; 66],
+    ys: &'a [f64; 66],
+    u: &'a [f64; 70],
+    points: &[f64],
+    out: &mut [f64],
+    refusals: &mut [u64],
+)
+    requires { ⌜ Accepted (take (n + 4) (now u)) n ⌝ ∗ ⌜ Room (now points) (now out) (now refusals) ⌝ }
+    ensures { λ _. ⌜ Asked 1 (eachFound (trusting n (now (xs .entry)) (now (ys .entry)) (now (u .entry))) (now (points .entry)))
+        (now (out .entry)) (now (refusals .entry)) (pointsIn (now (points .entry))) (now (out .exit)) (now (refusals .exit)) ⌝ }
+{
+    let count = points.len() / 2;
+    for k in 0..count {
+        let p = P2 {
+            x: points[2 * k],
+            y: points[2 * k + 1],
+        };
+        let found = search(n, xs, ys, u, p);
+        answer_at(found, k, out, refusals);
+    }
+}
+
+// The parameters of the curve's points that lie nearest to these points, x and y in turn, and the refusal of each. The curve is checked once.
+// Corresponds to spline.rs: closest_param, for each point.
+pub fn closest_many(c: Curve, points: &[f64], out: &mut [f64], refusals: &mut [u64]) -> Refusal
+    ensures { λ r. ⌜ many r (now (out .exit)) (now (refusals .exit))
+        ≡ closestMany (byRecord c) (now (points .entry)) (now (out .entry)) (now (refusals .entry)) ⌝ }
+{
+    if points.len() % 2 != 0 {
+        return refusal::by(1);
+    }
+    let r = shape::check(c.points, c.knot_count, &c.xs, &c.ys, &c.knots);
+    if r.number != 0 {
+        return r;
+    }
+    let q = many::room(points.len() / 2, 1, out.len(), refusals.len());
+    if q.number != 0 {
+        return q;
+    }
+    search_each(c.points, &c.xs, &c.ys, &c.knots, points, out, refusals);
+    q
+}
+
+// The same for a curve in slices: control points x, y in turn, and knots.
+pub fn closest_many_slices(
+    coords: &[f64],
+    knots: &[f64],
+    points: &[f64],
+    out: &mut [f64],
+    refusals: &mut [u64],
+) -> Refusal
+    ensures { λ r. ⌜ many r (now (out .exit)) (now (refusals .exit))
+        ≡ closestMany (inSlices (now (coords .entry)) (now (knots .entry))) (now (points .entry)) (now (out .entry)) (now (refusals .entry)) ⌝ }
+{
+    if points.len() % 2 != 0 {
+        return refusal::by(1);
+    }
+    let b = curve::assemble(coords, true, knots);
+    let r = b.refusal;
+    if r.number != 0 {
+        return r;
+    }
+    let q = many::room(points.len() / 2, 1, out.len(), refusals.len());
+    if q.number != 0 {
+        return q;
+    }
+    let made = b.curve;
+    search_each(
+        made.points,
+        &made.xs,
+        &made.ys,
+        &made.knots,
+        points,
+        out,
+        refusals,
+    );
+    q
 }

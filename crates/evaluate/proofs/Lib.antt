@@ -3,3 +3,4 @@ pub mod Rooms
 pub mod Places
 pub mod Pieces
 pub mod Slices
+pub mod Near

@@ -10,7 +10,7 @@ use Rattle.meaning.specs.Scalar.{Ops, plain, zero64}
 use Rattle.meaning.specs.Table.{at1}
 use Rattle.plane.specs.Vector.{Vector, addV, scaleV}
 use Rattle.shape.specs.Shape.{Shape}
-use Rattle.evaluate.specs.Point.{placed, insideOf, beyondOf, orderAt, ordersOf}
+use Rattle.evaluate.specs.Point.{placed, straightOn, insideOf, beyondOf, orderAt, ordersOf}
 use Rattle.evaluate.specs.Straight.{straightOf, onFrom}
 use Rattle.evaluate.proofs.Rooms.{point-back, tangent-back}
 
@@ -32,6 +32,11 @@ on-from-is sp c e t m {room} q = ap (placed plain m) (λ i k. each k i)
     each (suc zero) = tangent-back _ q
     each (suc (suc k)) = refl
 
+-- the same over any scalar, from the two orders at e
+pub straight-by : {A : Type 0} (o : Ops A) (f : ℕ → Vector A) (e t : A) {dt : A} {p d s r : Vector A}
+    → p ≡ f 0 → d ≡ f 1 → dt ≡ o .minus t e → s ≡ scaleV o d dt → r ≡ addV o p s → r ≡ straightOn o f e t 0
+straight-by o f e t hp hd ht hs hr = hr ∙ (λ i. addV o (hp i) ((hs ∙ (λ j. scaleV o (hd j) (ht j))) i))
+
 module _ {A : Type 0} (o : Ops A) (sp : Float → ℕ) (c : Shape A) (t : A) (nd : ℕ) where
   -- no such curve, no such order
   pub too-few : c .n < 4 → replicate 10 (o .cst zero64) ≡ ordersOf o sp c t nd
@@ -48,16 +53,16 @@ module _ {A : Type 0} (o : Ops A) (sp : Float → ℕ) (c : Shape A) (t : A) (nd
 
   -- before the domain, past it, in it: order by order
   module _ (before : lt (o .val t) (o .val (at1 o (c .knots) 0)) ≡ true) (k : ℕ) where
-    at-before : beyondOf o sp c (at1 o (c .knots) 0) t k ≡ orderAt o sp c t nd k
+    pub at-before : beyondOf o sp c (at1 o (c .knots) 0) t k ≡ orderAt o sp c t nd k
     unfolding orderAt
     at-before = rw before
 
   module _ (after : lt (o .val t) (o .val (at1 o (c .knots) 0)) ≡ false) (k : ℕ) where
-    at-past : lt (o .val (at1 o (c .knots) (c .n + 3))) (o .val t) ≡ true → beyondOf o sp c (at1 o (c .knots) (c .n + 3)) t k ≡ orderAt o sp c t nd k
+    pub at-past : lt (o .val (at1 o (c .knots) (c .n + 3))) (o .val t) ≡ true → beyondOf o sp c (at1 o (c .knots) (c .n + 3)) t k ≡ orderAt o sp c t nd k
     unfolding orderAt
     at-past e = rw (after, e)
 
-    at-inside : lt (o .val (at1 o (c .knots) (c .n + 3))) (o .val t) ≡ false → insideOf o sp c t nd k ≡ orderAt o sp c t nd k
+    pub at-inside : lt (o .val (at1 o (c .knots) (c .n + 3))) (o .val t) ≡ false → insideOf o sp c t nd k ≡ orderAt o sp c t nd k
     unfolding orderAt
     at-inside e = rw (after, e)
 

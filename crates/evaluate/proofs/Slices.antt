@@ -6,14 +6,13 @@ use Prim.Native.Nat.{ℕ, _+_, _-_, _*_, _≤_, _<_}
 use native.Mathlib.Omega.{arith}
 use borrow.Author.Tests.{eq-eqb, ne-eqb}
 use lib.ListN.{length, take, replicate, length-take}
-use lib.Seq.{getD-take}
-use lib.Ieee.{Float, nan, lt}
+use lib.Ieee.{Float, lt}
 use Rattle.meaning.specs.Scalar.{plain, zero64}
 use Rattle.meaning.specs.Table.{at1}
 use Rattle.span.specs.Halving.{halvedOf}
 use Rattle.span.proofs.Spans.{same-halved}
 use Rattle.shape.specs.Shape.{Shape, pointsIn, sliceShape}
-use Rattle.shape.proofs.Handles.{given-front}
+use Rattle.shape.proofs.Handles.{given-front, given-at}
 use Rattle.evaluate.specs.Point.{placed, insideOf, beyondOf, ordersOf}
 use Rattle.evaluate.specs.Piece.{found, fourOf, around, onSpan, Counted, sliceOrders}
 use Rattle.evaluate.proofs.Places.{before-domain, past-domain, in-domain}
@@ -40,7 +39,7 @@ module _ (coords ks : List Float) (w : Counted coords ks) where
   knots-front = given-front ks (c .n) (w .long) (w .room)
 
   knot-at : (i : ℕ) → i < c .n + 4 → at1 plain (c .knots) i ≡ at1 plain ks i
-  knot-at i h = sym (getD-take (c .n + 4) (c .knots) i nan h) ∙ ap (λ (l : List Float). at1 plain l i) knots-front
+  knot-at i h = given-at ks (c .n) (w .long) (w .room) i h
 
   knots-reach : c .n < length (c .knots)
   knots-reach = let l = ap length knots-front in let m = length-take (c .n + 4) (c .knots) in omega (arith, w .long)
@@ -50,12 +49,14 @@ module _ (coords ks : List Float) (w : Counted coords ks) where
 
   -- what the code reads of span i: the knots around it, x from a on, y from b on
   pub slices-on-span : (t : Float) (nd i a b m : ℕ) → i ≡ halvedOf ks (c .n) t → 3 ≤ i → i < c .n → a ≡ 2 * (i - 3) → b ≡ 2 * (i - 3) + 1
-      → placed plain m (onSpan (around ks i) 3 (fourOf coords a 2) (fourOf coords b 2) t nd) ≡ placed plain m (insideOf plain (found c) c t nd)
+      → placed plain m (onSpan plain (around ks i) 3 (fourOf plain coords a 2) (fourOf plain coords b 2) t nd)
+      ≡ placed plain m (insideOf plain (found c) c t nd)
   slices-on-span t nd i a b m e g h p q =
       let r = w .room in
-      on-span-is (found c) c t nd (around ks i) 3 i (fourOf coords a 2) (fourOf coords b 2) m (e ∙ span-found t)
+      ap (placed plain m)
+      (on-span-is plain (found c) c t nd (around ks i) 3 i (fourOf plain coords a 2) (fourOf plain coords b 2) (e ∙ span-found t)
       (around-basis ks (c .knots) i t nd g (omega arith) (λ k l. sym (knot-at (i - 2 + k) (omega arith))))
-      (weighted-others coords (c .n) 0 a i r g h (omega arith)) (weighted-others coords (c .n) 1 b i r g h q)
+      (weighted-others coords (c .n) 0 a i r g h (omega arith)) (weighted-others coords (c .n) 1 b i r g h q))
 
   -- before the domain, past it, in it
   module _ (t : Float) (nd : ℕ) (q : nd ≤ 4) where

@@ -2,3 +2,4 @@
 pub mod Point
 pub mod Straight
 pub mod Piece
+pub mod Near

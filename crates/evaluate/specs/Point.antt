@@ -26,6 +26,12 @@ module _ {A : Type 0} (o : Ops A) where
   unfoldable pub placed : ℕ → (ℕ → Vector A) → List A
   placed m f = run 0 m (λ k l. set (set l (2 * k) (f k .x)) (2 * k + 1) (f k .y)) (replicate 10 (o .cst zero64))
 
+  -- straight on to t from the end e of a domain, where f gives the orders at e: f 0 + (t - e) f 1, then f 1, then zeros
+  abbrev pub straightOn : (ℕ → Vector A) → A → A → ℕ → Vector A
+  straightOn f e t zero = addV o (f 0) (scaleV o (f 1) (o .minus t e))
+  straightOn f e t (suc zero) = f 1
+  straightOn f e t (suc (suc k)) = record { x = o .cst zero64; y = o .cst zero64 }
+
 -- `sp` finds the span of a parameter
 module _ {A : Type 0} (o : Ops A) (sp : Float → ℕ) (c : Shape A) where
   -- order k by the polynomial of t's span, where the orders up to nd are asked for
@@ -34,9 +40,7 @@ module _ {A : Type 0} (o : Ops A) (sp : Float → ℕ) (c : Shape A) where
 
   -- order k past the end e of the domain: C(e) + (t - e) C'(e), then C'(e), then zeros
   unfoldable pub beyondOf : A → A → ℕ → Vector A
-  beyondOf e t zero = addV o (insideOf e 1 0) (scaleV o (insideOf e 1 1) (o .minus t e))
-  beyondOf e t (suc zero) = insideOf e 1 1
-  beyondOf e t (suc (suc k)) = record { x = o .cst zero64; y = o .cst zero64 }
+  beyondOf e t k = straightOn o (insideOf e 1) e t k
 
   -- order k at t
   unfoldable pub orderAt : A → ℕ → ℕ → Vector A

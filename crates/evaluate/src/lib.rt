@@ -1,16 +1,16 @@
 // A point of a curve and its derivatives in plain doubles, over counts and arrays or over slices: the doors above check those. What one span
 // reads, six knots and four control points, is worked on by the same functions from either.
 ghost use mathlib.Core.Path.{_≡_};
-ghost use mathlib.Core.List.{[]};
 ghost use Prim.Native.Nat.{_+_, _*_, _≤_, _<_};
-ghost use lib.ListN.{length, getD};
+ghost use lib.ListN.{length};
 ghost use Rattle.meaning.specs.Scalar.{plain};
 ghost use Rattle.span.specs.Halving.{halvedOf};
 ghost use Rattle.plane.specs.View.{view};
 ghost use Rattle.shape.specs.Shape.{sliceShape};
 ghost use Rattle.evaluate.specs.Point.{weighted, placed, insideOf, beyondOf, ordersOf};
 ghost use Rattle.evaluate.specs.Straight.{straightOf, onFrom};
-ghost use Rattle.evaluate.specs.Piece.{found, fourOf, around, onSpan, Counted, sliceOrders};
+ghost use Rattle.evaluate.specs.Piece.{found, fourOf, ofFour, around, onSpan, Counted, sliceOrders};
+ghost use Rattle.evaluate.specs.Near.{pointNear};
 use plane::P2;
 
 // ---- on one span
@@ -29,8 +29,7 @@ fn weigh(a: &[f64; 4], row: [f64; 4]) -> f64
 // Both coordinates of the orders 0 to nd, from the rows of the basis.
 fn combine<'a>(xs: &'a [f64; 4], ys: &'a [f64; 4], ders: [[f64; 4]; 5], nd: usize) -> [f64; 10]
     requires { ⌜ nd ≤ 4 ⌝ }
-    ensures { λ r. ⌜ r ≡ placed plain (nd + 1)
-        (λ k. record { x = weighted plain (now (xs .entry)) 3 (getD ders k []); y = weighted plain (now (ys .entry)) 3 (getD ders k []) }) ⌝ }
+    ensures { λ r. ⌜ r ≡ placed plain (nd + 1) (ofFour plain (now (xs .entry)) (now (ys .entry)) ders) ⌝ }
 {
     let mut out = [0.0; 10];
     let end = nd + 1;
@@ -53,16 +52,16 @@ fn on_span<'a>(
     nd: usize,
 ) -> [f64; 10]
     requires { ⌜ nd ≤ 4 ⌝ }
-    ensures { λ r. ⌜ r ≡ placed plain (nd + 1) (onSpan (now (u .entry)) i (now (xs .entry)) (now (ys .entry)) t nd) ⌝ }
+    ensures { λ r. ⌜ r ≡ placed plain (nd + 1) (onSpan plain (now (u .entry)) i (now (xs .entry)) (now (ys .entry)) t nd) ⌝ }
 {
-    let ders = basis::plain::basis(u, i, t, nd);
+    let ders = basis_plain::basis(u, i, t, nd);
     combine(xs, ys, ders, nd)
 }
 
 // Four numbers from index at on, step apart: control points in a row, or every second number.
 fn four(a: &[f64], at: usize, step: usize) -> [f64; 4]
     requires { ⌜ at + 3 * step < length (now a) ⌝ }
-    ensures { λ r. ⌜ r ≡ fourOf (now (a .entry)) at step ⌝ }
+    ensures { λ r. ⌜ r ≡ fourOf plain (now (a .entry)) at step ⌝ }
 {
     [a[at], a[at + step], a[at + 2 * step], a[at + 3 * step]]
 }
@@ -176,6 +175,38 @@ pub fn orders<'a>(
         return beyond(u, n, xs, ys, hi, t, nd);
     }
     inside(u, n, xs, ys, t, nd)
+}
+
+// The point alone, from knots whose span is i and the four control points of that span.
+fn point_on<'a>(u: &'a [f64; 70], i: usize, xs: &'a [f64; 4], ys: &'a [f64; 4], t: f64) -> P2
+    ensures { λ r. ⌜ view r ≡ onSpan plain (now (u .entry)) i (now (xs .entry)) (now (ys .entry)) t 0 0 ⌝ }
+{
+    let row = basis_plain::basis(u, i, t, 0)[0];
+    P2 {
+        x: weigh(xs, row),
+        y: weigh(ys, row),
+    }
+}
+
+// The point alone, for who asks at one parameter after the other: the span is i where t lies in it, so that none is looked for.
+// Corresponds to spline.rs: Curve::eval.
+pub fn point_near<'a>(
+    u: &'a [f64; 70],
+    n: usize,
+    xs: &'a [f64; 66],
+    ys: &'a [f64; 66],
+    t: f64,
+    i: usize,
+) -> P2
+    ensures { λ r. ⌜ view r ≡ pointNear (record { n = n; xs = now (xs .entry); ys = now (ys .entry); knots = now (u .entry) }) t i ⌝ }
+{
+    if span::within(u, n, t, i) {
+        let x = four(xs, i - 3, 1);
+        let y = four(ys, i - 3, 1);
+        return point_on(u, i, &x, &y, t);
+    }
+    let at = orders(u, n, xs, ys, t, 0);
+    P2 { x: at[0], y: at[1] }
 }
 
 // ---- of slices

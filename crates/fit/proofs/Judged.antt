@@ -4,6 +4,7 @@ use mathlib.Core.Bool.{Bool, true, false, not, _&&_, and-assoc}
 use mathlib.Core.List.{List, _++_, flatten}
 use Prim.Native.Nat.{ℕ}
 use borrow.Author.Tests.{not-true}
+use lib.ListN.{length}
 use lib.Ieee.{Float}
 use lib.Ieee.Scale.{finite}
 use Rattle.meaning.specs.Scalar.{plain}
@@ -24,12 +25,13 @@ every-tame : (l : List Float) (k : ℕ) → every k (λ i. finite (at1 plain l i
 every-tame l k =
     same-test _ _ (λ h. ap not (none-wild l k (each k (λ i. finite (at1 plain l i)) h))) (λ h. all k _ (each-finite l k (not-true (someWild l k) h)))
 
+-- a list of d numbers
+pub tame-list : (l : List Float) (d : ℕ) → length l ≡ d → allFine plain l ≡ not (someWild l d)
+tame-list l d e = fine-each plain l ∙ ap (λ (n : ℕ). every n (λ i. finite (at1 plain l i))) e ∙ every-tame l d
+
 module _ (q : List Float) where
   knots-fine : allFine plain (knotsThrough q) ≡ not (someWild (knotsThrough q) 70)
-  knots-fine =
-      fine-each plain (knotsThrough q)
-      ∙ ap (λ (n : ℕ). every n (λ i. finite (at1 plain (knotsThrough q) i))) (fit-knots-length q (pointsIn q))
-      ∙ every-tame (knotsThrough q) 70
+  knots-fine = tame-list (knotsThrough q) 70 (fit-knots-length q (pointsIn q))
 
   solve-fine : allFine plain (storedBySolve plain (controlsFor q) (rowsThrough q)) ≡ solutionThrough q .fine
   unfolding solvedOk solutionThrough

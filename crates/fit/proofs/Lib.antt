@@ -5,9 +5,11 @@ pub mod Plus
 pub mod Rising
 pub mod Rows
 pub mod Judged
+pub mod Six
 pub mod Through
 pub mod Asked
 pub mod Passing
+pub mod Kept
 pub mod Doubles
 pub mod Repeats
 pub mod Doors

@@ -4,12 +4,11 @@ use mathlib.Core.Bool.{Bool, true, false, cond}
 use mathlib.Core.List.{_∷_}
 use Prim.Native.Nat.{ℕ, zero, suc, _+_, _-_, _≤_, _<_}
 use native.Mathlib.Omega.{arith}
-use lib.ListN.{replicate}
-use lib.Ieee.{Float, nan}
+use lib.ListN.{replicate, length-replicate}
 use Rattle.meaning.proofs.Filling.{Filled}
 use lib.Dec.{ltb, eqb}
 use borrow.Author.Tests.{lt-ltb, le-ltb, ltb-true, ne-eqb}
-use Rattle.meaning.specs.Scalar.{Ops, plain, zero64, one64}
+use Rattle.meaning.specs.Scalar.{Ops, zero64, one64}
 use Rattle.meaning.specs.Loops.{turns}
 use Rattle.meaning.specs.Search.{listed}
 use Rattle.solve.proofs.Lists.{turns-next}
@@ -68,7 +67,7 @@ module _ {A : Type 0} (o : Ops A) where
       (choice-cong (ltb k (n - 1)) (o .over (sumOf o f k) (sumOf o f (n - 1))) (o .over (sumOf o g k) (sumOf o g (n - 1))) (o .cst one64)
       (λ e. let l : k < n - 1 = ltb-true k (n - 1) e in λ t. o .over (sum-cong f g k (λ i b. h i (omega arith)) t) (all t)))
 
-  knot-cong : (p q : ℕ → A) (n j : ℕ) → 1 ≤ n → ((k : ℕ) → k < n → p k ≡ q k) → knotAt o p n j ≡ knotAt o q n j
+  pub knot-cong : (p q : ℕ → A) (n j : ℕ) → 1 ≤ n → ((k : ℕ) → k < n → p k ≡ q k) → knotAt o p n j ≡ knotAt o q n j
   unfolding knotAt
   knot-cong p q n j m h =
       ap (cond (ltb j 4) (o .cst zero64))
@@ -79,11 +78,11 @@ module _ {A : Type 0} (o : Ops A) where
   unfolding knotsBy
   knots-cong p q n m h = listed-cong 0 70 (knotAt o p n) (knotAt o q n) (λ j l. knot-cong p q n j m h)
 
--- zeros begin as the parameters do
-pub parameters-begin : (st : ℕ → Float) (n : ℕ) → Filled (parameterAt plain st n) nan 64 1 (replicate 64 zero64)
-unfolding parameterAt
-parameters-begin st n = record {
-  long = refl;
-  high = omega arith;
-  same = λ i h. let e : i ≡ 0 = omega arith in rw e;
-}
+  -- zeros begin as the parameters do
+  pub parameters-begin : (st : ℕ → A) (n d : ℕ) → Filled (parameterAt o st n) (o .off) (suc d) 1 (replicate (suc d) (o .cst zero64))
+  unfolding parameterAt
+  parameters-begin st n d = record {
+    long = length-replicate (suc d) (o .cst zero64);
+    high = omega arith;
+    same = λ i h. let e : i ≡ 0 = omega arith in rw e;
+  }

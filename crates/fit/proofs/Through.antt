@@ -8,7 +8,7 @@ use native.Mathlib.Omega.{arith}
 use borrow.Author.Tests.{not-false, eqb-true}
 use lib.ListN.{length, drop}
 use lib.Ieee.{Float, nan}
-use Rattle.meaning.specs.Scalar.{plain}
+use Rattle.meaning.specs.Scalar.{Ops, plain}
 use Rattle.meaning.specs.Table.{at1}
 use Rattle.meaning.proofs.Tests.{by-two}
 use Rattle.meaning.proofs.Filling.{Filled}
@@ -74,10 +74,10 @@ building-as a b c d e h =
 -- ---- the arrays
 
 -- parameters made of an array of the steps are the definition's
-pub parameters-are : (q s p : List Float) (n : ℕ) → Filled (stepAt plain q) nan 64 (n - 1) s → Filled (parameterAt plain (at1 plain s) n) nan 64 n p
-    → Filled (fitParameter plain q n) nan 64 n p
-parameters-are q s p n hs hp =
-    record { long = hp .long; high = hp .high; same = λ k l. hp .same k l ∙ parameter-cong plain (at1 plain s) (stepAt plain q) n k (λ i b. hs .same i b) }
+pub parameters-are : {A : Type 0} (o : Ops A) (q s p : List A) (n d : ℕ) → Filled (stepAt o q) (o .off) d (n - 1) s
+    → Filled (parameterAt o (at1 o s) n) (o .off) d n p → Filled (fitParameter o q n) (o .off) d n p
+parameters-are o q s p n d hs hp =
+    record { long = hp .long; high = hp .high; same = λ k l. hp .same k l ∙ parameter-cong o (at1 o s) (stepAt o q) n k (λ i b. hs .same i b) }
 
 module _ (q p u : List Float) (two : 2 ≤ pointsIn q) (few : pointsIn q ≤ 64)
     (hp : Filled (fitParameter plain q (pointsIn q)) nan 64 (pointsIn q) p) (hu : u ≡ knotsBy plain (at1 plain p) (pointsIn q)) where

@@ -8,6 +8,7 @@ use lib.ListN.{set}
 use lib.Ieee.{Float}
 use Rattle.meaning.specs.Scalar.{plain}
 use Rattle.meaning.specs.Table.{at1}
+use Rattle.meaning.specs.Loops.{turns, run}
 use Rattle.span.specs.Halving.{halvedOf}
 use Rattle.plane.specs.Vector.{Vector}
 use Rattle.refusal.specs.Refusals.{Row, row}
@@ -35,6 +36,13 @@ foundFitRow us ps q n r = fitRow plain (halvedOf us (n + 2)) us (at1 plain ps) q
 unfoldable pub foundFitRows : List Float → List Float → List Float → ℕ → List (List Float)
 unfolding fitRows
 foundFitRows us ps q n = fitRows plain (halvedOf us (n + 2)) us (at1 plain ps) q n
+
+-- a row with four numbers from column `at` on, and with its right sides past m matrix numbers
+unfoldable pub fourPut : List Float → ℕ → List Float → List Float
+fourPut four at l = run 0 4 (λ j t. set t (at + j) (at1 plain four j)) l
+
+unfoldable pub sidesPut : ℕ → Vector Float → List Float → List Float
+sidesPut m b l = set (set l m (b .x)) (m + 1) (b .y)
 
 -- `out` is the row, and `fine` tells whether its numbers are finite
 pub record Stored (row out : List Float) (fine : Bool) : Type 0 where

@@ -2,9 +2,9 @@
 ghost use mathlib.Core.Path.{_≡_};
 ghost use mathlib.Core.Bool.{_||_};
 ghost use Prim.Native.Nat.{_+_, _-_, _*_, _≤_, _<_};
-ghost use lib.ListN.{length};
+ghost use lib.ListN.{length, replicate};
 ghost use lib.Ieee.{nan};
-ghost use Rattle.meaning.specs.Scalar.{plain};
+ghost use Rattle.meaning.specs.Scalar.{plain, zero64};
 ghost use Rattle.meaning.specs.Table.{at1};
 ghost use Rattle.meaning.specs.Search.{listed};
 ghost use Rattle.meaning.proofs.Filling.{Filled};
@@ -14,7 +14,7 @@ ghost use Rattle.fit.specs.Parameters.{pointAt, stepAt, sumOf, parameter
 ghost use Rattle.fit.specs.System.{spread, withSides};
 ghost use Rattle.fit.specs.Fit.{making};
 ghost use Rattle.fit.specs.Fitting.{workFor, workShort, fitting};
-ghost use Rattle.fit.specs.Stored.{foundRow, foundFitRow, Stored, StoredAt, StoredAll, curveWith, interpolated};
+ghost use Rattle.fit.specs.Stored.{fourPut, sidesPut, foundRow, foundFitRow, Stored, StoredAt, StoredAll, curveWith, interpolated};
 use curve::Built;
 use curve::Curve;
 use knots::Form;
@@ -128,56 +128,55 @@ fn knots_by(p: &[f64; 64], n: usize) -> [f64; 70]
 
 // ---- the system
 
-// Column k of a row with the four numbers in the columns i - 3 to i.
-fn spread_at(four: [f64; 4], i: usize, k: usize) -> f64
-    requires { ⌜ k ≤ 66 ⌝ }
-    ensures { λ r. ⌜ r ≡ spread plain four i k ⌝ }
+// Each number of a row +0.0.
+fn clear_row(t: &mut [f64])
+    ensures { λ _. ⌜ now (t .exit) ≡ replicate (length (now (t .entry))) zero64 ⌝ }
 {
-    if k + 3 < i {
-        return 0.0;
+    let end = t.len();
+    for k in 0..end {
+        t[k] = 0.0;
     }
-    if k > i {
-        return 0.0;
-    }
-    four[k + 3 - i]
 }
 
-// Number k of a row of m matrix numbers and two right sides.
-fn number_at(four: [f64; 4], i: usize, m: usize, b: P2, k: usize) -> f64
-    requires { ⌜ m ≤ 66 ⌝ }
-    ensures { λ r. ⌜ r ≡ withSides plain m (spread plain four i) (view b) k ⌝ }
+// Four numbers in a row, from column at on.
+fn put_four(t: &mut [f64], four: [f64; 4], at: usize)
+    requires { ⌜ at + 3 < length (now t) ⌝ }
+    ensures { λ _. ⌜ now (t .exit) ≡ fourPut four at (now (t .entry)) ⌝ }
 {
-    if k < m {
-        return spread_at(four, i, k);
+    for j in 0..4 {
+        t[at + j] = four[j];
     }
-    if k == m {
-        return b.x;
-    }
-    b.y
 }
 
-// A row filled with four numbers and the right sides. Answers whether all that is stored is finite.
+// The right sides of a row of m matrix numbers.
+fn put_sides(t: &mut [f64], m: usize, b: P2)
+    requires { ⌜ m + 1 < length (now t) ⌝ }
+    ensures { λ _. ⌜ now (t .exit) ≡ sidesPut m (view b) (now (t .entry)) ⌝ }
+{
+    t[m] = b.x;
+    t[m + 1] = b.y;
+}
+
+// A row filled with four numbers in the columns i - 3 to i and the right sides. Answers whether all that is stored is finite: the others are +0.0.
 fn fill_row(t: &mut [f64], four: [f64; 4], i: usize, m: usize, b: P2) -> bool
-    requires { ⌜ (m ≤ 66) × (length (now t) ≡ m + 2) ⌝ }
+    requires { ⌜ (m ≤ 66) × (length (now t) ≡ m + 2) × (3 ≤ i) × (i < m) ⌝ }
     ensures { λ r. ⌜ Stored (listed 0 (m + 2) (withSides plain m (spread plain four i) (view b))) (now (t .exit)) r ⌝ }
 {
-    let mut fine = true;
-    let end = m + 2;
-    for k in 0..end {
-        let v = number_at(four, i, m, b, k);
-        t[k] = v;
-        fine = number::both(fine, number::is_finite(v));
-    }
-    fine
+    clear_row(t);
+    put_four(t, four, i - 3);
+    put_sides(t, m, b);
+    let six = [b.y, b.x, four[3], four[2], four[1], four[0]];
+    let wild = outcome::first_wild(&six, 6) < 6;
+    !wild
 }
 
 // The row that says: the derivative of order d at t is b.
 fn set_row(row: &mut [f64], u: &[f64; 70], m: usize, t: f64, d: usize, b: P2) -> bool
-    requires { ⌜ (m ≤ 66) × (d ≤ 4) × (length (now row) ≡ m + 2) ⌝ }
+    requires { ⌜ (4 ≤ m) × (m ≤ 66) × (d ≤ 4) × (length (now row) ≡ m + 2) ⌝ }
     ensures { λ r. ⌜ Stored (foundRow (now (u .entry)) m t d (view b)) (now (row .exit)) r ⌝ }
 {
     let i = span::span(u, m, t);
-    let ders = basis::plain::basis(u, i, t, d);
+    let ders = basis_plain::basis(u, i, t, d);
     fill_row(row, ders[d], i, m, b)
 }
 
@@ -190,7 +189,7 @@ fn system_row<'a>(
     n: usize,
     r: usize,
 ) -> bool
-    requires { ⌜ (n ≤ 64) × (r < n + 2) × (2 * n ≤ length (now q)) × (length (now row) ≡ n + 2 + 2) ⌝ }
+    requires { ⌜ (2 ≤ n) × (n ≤ 64) × (r < n + 2) × (2 * n ≤ length (now q)) × (length (now row) ≡ n + 2 + 2) ⌝ }
     ensures { λ b. ⌜ Stored (foundFitRow (now (u .entry)) (now (p .entry)) (now (q .entry)) n r) (now (row .exit)) b ⌝ }
 {
     let m = n + 2;
@@ -214,7 +213,7 @@ fn fill_at<'a>(
     n: usize,
     r: usize,
 ) -> bool
-    requires { ⌜ (n ≤ 64) × (r < n + 2) × (2 * n ≤ length (now q)) × ((n + 2) * (n + 2 + 2) ≤ length (now w)) ⌝ }
+    requires { ⌜ (2 ≤ n) × (n ≤ 64) × (r < n + 2) × (2 * n ≤ length (now q)) × ((n + 2) * (n + 2 + 2) ≤ length (now w)) ⌝ }
     ensures { λ b. ⌜ StoredAt (n + 2) r (foundFitRow (now (u .entry)) (now (p .entry)) (now (q .entry)) n r) (now (w .entry)) (now (w .exit)) b ⌝ }
 {
     let s = n + 2 + 2;
@@ -225,7 +224,7 @@ fn fill_at<'a>(
 
 // Every row of the system. Answers whether all that is stored is finite.
 fn fill<'a>(w: &mut [f64], u: &'a [f64; 70], p: &'a [f64; 64], q: &'a [f64], n: usize) -> bool
-    requires { ⌜ (n ≤ 64) × (2 * n ≤ length (now q)) × ((n + 2) * (n + 2 + 2) ≤ length (now w)) ⌝ }
+    requires { ⌜ (2 ≤ n) × (n ≤ 64) × (2 * n ≤ length (now q)) × ((n + 2) * (n + 2 + 2) ≤ length (now w)) ⌝ }
     ensures { λ b. ⌜ StoredAll (now (u .entry)) (now (p .entry)) (now (q .entry)) n (now (w .entry)) (now (w .exit)) b ⌝ }
 {
     let mut fine = true;

@@ -1,2 +1,3 @@
 -- The polygon's length and the domain.
 pub mod Measure
+pub mod Judged

@@ -1,15 +1,20 @@
 // What is measured of a whole curve: the length of its polygon, and its domain. A curve is checked again, whoever made it.
 ghost use mathlib.Core.Path.{_≡_};
+ghost use mathlib.Core.Bool.{true};
 ghost use mathlib.Core.List.{[]};
-ghost use Prim.Native.Nat.{_+_};
-ghost use lib.ListN.{take};
-ghost use Rattle.knots.proofs.Accepted.{Accepted};
+ghost use Prim.Native.Nat.{_+_, _<_};
+ghost use lib.ListN.{length};
+ghost use Rattle.meaning.specs.Scalar.{plain};
 ghost use Rattle.outcome.specs.Told.{told};
 ghost use Rattle.shape.specs.Offered.{inSlices};
 ghost use Rattle.shape.specs.Trusting.{trusting};
 ghost use Rattle.curve.specs.Record.{byRecord};
+ghost use Rattle.polygon.specs.Polygon.{lengthBy};
+ghost use Rattle.polygon.specs.Stepped.{cornerAt, reaches};
 ghost use Rattle.measure.specs.Measure.{lengthAnswer, interval, domainAnswer};
+ghost use Rattle.measure.specs.Judged.{lengthTold};
 use curve::Curve;
+use knots::Form;
 use outcome::Told;
 use refusal::Refusal;
 
@@ -19,12 +24,12 @@ pub enum Interval {
     Refused(Refusal),
 }
 
-// The length of the control polygon.
-fn answer_length<'a>(n: usize, xs: &'a [f64; 66], ys: &'a [f64; 66], u: &'a [f64; 70]) -> Told
-    requires { ⌜ Accepted (take (n + 4) (now u)) n ⌝ }
-    ensures { λ r. ⌜ told r ≡ lengthAnswer (trusting n (now (xs .entry)) (now (ys .entry)) (now (u .entry))) ⌝ }
+// The length of the control polygon whose n corners stand step numbers apart.
+fn answer_length<'a>(n: usize, xs: &'a [f64], ys: &'a [f64], step: usize) -> Told
+    requires { ⌜ reaches n step (now xs) (now ys) ≡ true ⌝ }
+    ensures { λ r. ⌜ told r ≡ lengthTold (lengthBy plain (cornerAt step (now (xs .entry)) (now (ys .entry))) n) ⌝ }
 {
-    let length = polygon::length(n, xs, ys);
+    let length = polygon::length(n, xs, ys, step);
     if !number::is_finite(length) {
         return Told::Refused(refusal::by(15));
     }
@@ -32,8 +37,8 @@ fn answer_length<'a>(n: usize, xs: &'a [f64; 66], ys: &'a [f64; 66], u: &'a [f64
 }
 
 // The first knot and the last: the control points do not matter.
-fn answer_domain(n: usize, u: &[f64; 70]) -> Interval
-    requires { ⌜ Accepted (take (n + 4) (now u)) n ⌝ }
+fn answer_domain(n: usize, u: &[f64]) -> Interval
+    requires { ⌜ n + 3 < length (now u) ⌝ }
     ensures { λ r. ⌜ interval r ≡ domainAnswer (trusting n [] [] (now (u .entry))) ⌝ }
 {
     Interval::Between(u[0], u[n + 3])
@@ -48,20 +53,18 @@ pub fn length(c: Curve) -> Told
     if r.number != 0 {
         return Told::Refused(r);
     }
-    answer_length(c.points, &c.xs, &c.ys, &c.knots)
+    answer_length(c.points, &c.xs, &c.ys, 1)
 }
 
 // The same for a curve in slices: control points x, y in turn, and knots.
 pub fn length_slices(coords: &[f64], knots: &[f64]) -> Told
     ensures { λ r. ⌜ told r ≡ lengthAnswer (inSlices (now (coords .entry)) (now (knots .entry))) ⌝ }
 {
-    let b = curve::assemble(coords, true, knots);
-    let r = b.refusal;
+    let r = shape::check_handles(Form::Control, coords, true, knots);
     if r.number != 0 {
         return Told::Refused(r);
     }
-    let made = b.curve;
-    answer_length(made.points, &made.xs, &made.ys, &made.knots)
+    answer_length(coords.len() / 2, coords, &coords[1..], 2)
 }
 
 // The first knot and the last.
@@ -80,11 +83,9 @@ pub fn domain(c: Curve) -> Interval
 pub fn domain_slices(coords: &[f64], knots: &[f64]) -> Interval
     ensures { λ r. ⌜ interval r ≡ domainAnswer (inSlices (now (coords .entry)) (now (knots .entry))) ⌝ }
 {
-    let b = curve::assemble(coords, true, knots);
-    let r = b.refusal;
+    let r = shape::check_handles(Form::Control, coords, true, knots);
     if r.number != 0 {
         return Interval::Refused(r);
     }
-    let made = b.curve;
-    answer_domain(made.points, &made.knots)
+    answer_domain(coords.len() / 2, knots)
 }

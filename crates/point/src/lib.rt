@@ -11,7 +11,7 @@ use plane::P2;
 use refusal::Refusal;
 
 // The orders 0 to order, which stand in room, as the answer at t.
-fn answer_point(room: &[f64; 10], t: f64, order: usize, out: &mut [f64]) -> Refusal
+pub fn answer_point(room: &[f64; 10], t: f64, order: usize, out: &mut [f64]) -> Refusal
     ensures { λ r. ⌜ outcome r (now (out .exit))
         ≡ answering (pointRows (now (room .entry)) t order (now (out .entry))) (now (room .entry)) (numbersFor order) (now (out .entry)) ⌝ }
 {

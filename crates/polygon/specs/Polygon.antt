@@ -6,11 +6,11 @@ use Rattle.meaning.specs.Table.{at1}
 use Rattle.meaning.specs.Loops.{run}
 use Rattle.plane.specs.Vector.{Vector, subV, normV}
 
-module _ {A : Type 0} (o : Ops A) (xs ys : List A) where
-  -- control point i
-  abbrev pub corner : ℕ → Vector A
-  corner i = record { x = at1 o xs i; y = at1 o ys i }
+module _ {A : Type 0} (o : Ops A) where
+  -- the norms of the differences of each of n corners and the one before, summed from +0.0 in rising order
+  unfoldable pub lengthBy : (ℕ → Vector A) → ℕ → A
+  lengthBy corner n = run 1 n (λ i s. o .plus s (normV o (subV o (corner i) (corner (i - 1))))) (o .cst zero64)
 
-  -- the norms of the differences of each of n control points and the one before, summed from +0.0 in rising order
-  unfoldable pub lengthOf : ℕ → A
-  lengthOf n = run 1 n (λ i s. o .plus s (normV o (subV o (corner i) (corner (i - 1))))) (o .cst zero64)
+  -- the corners are control points
+  abbrev pub lengthOf : List A → List A → ℕ → A
+  lengthOf xs ys n = lengthBy (λ i. record { x = at1 o xs i; y = at1 o ys i }) n

@@ -2,9 +2,9 @@
 use mathlib.Core.Path.{_≡_, refl, sym, ap, _∙_, subst}
 use mathlib.Core.Bool.{Bool, true, false, not, cond}
 use mathlib.Core.List.{List, [], _∷_, _++_}
-use Prim.Native.Nat.{ℕ, suc, _+_, _*_, _≤_, _<_}
+use Prim.Native.Nat.{ℕ, zero, suc, _+_, _-_, _*_, _≤_, _<_}
 use native.Mathlib.Nat.{le-refl, zero-add}
-use borrow.Author.Tests.{le-leb, eq-eqb, ne-eqb}
+use borrow.Author.Tests.{eq-eqb, ne-eqb}
 use native.Mathlib.Numerals.{add-one}
 use native.Mathlib.Omega.{arith}
 use lib.ListN.{length, getD, set, take, drop, length-append, List·getD-append}
@@ -139,20 +139,36 @@ module _ (c : Shape Float) (per : ℕ) where
   samples-room room₀ {room} {at} h e q =
       ap (λ (x : List Float). set x at (at1 plain (c .knots) (c .n + 3))) q ∙ one-more pairs room₀ at (at1 plain (c .knots) (c .n + 3)) nan (sym e) h
 
--- what a walk leaves in its room, of a curve
-module _ (n : ℕ) (us : List Float) (per : ℕ) (few : n ≤ 66) (small : per ≤ 16) (room : List Float) {k : ℕ} {room′ : List Float} (e : walked k room′ ≡ walkOf n us per room) where
-  abbrev samples : List Float
-  samples = samplesOf (record { n = n; xs = []; ys = []; knots = us }) per
-
-  made : walked k room′ ≡ walked (length samples) (samples ++ drop (length samples) room)
-  unfolding walkOf
-  made = e ∙ rw (le-leb n 66 few, le-leb per 16 small)
-
+-- what a walk leaves in its room
+module _ (n : ℕ) (us : List Float) (per : ℕ) (room : List Float) {k : ℕ} {room′ : List Float} (e : walked k room′ ≡ walkOf n us per room) where
   pub walk-count : k ≡ length (samplesOf (record { n = n; xs = []; ys = []; knots = us }) per)
-  walk-count = ap (λ (w : Walked). w .count) made
+  unfolding walkOf
+  walk-count = ap (λ (w : Walked). w .count) e
 
   pub walk-room : room′ ≡ samplesOf (record { n = n; xs = []; ys = []; knots = us }) per ++ drop (length (samplesOf (record { n = n; xs = []; ys = []; knots = us }) per)) room
-  walk-room = ap (λ (w : Walked). w .room) made
+  unfolding walkOf
+  walk-room = ap (λ (w : Walked). w .room) e
+
+-- ---- two curves with the same first n + 4 knots
+
+module _ (c d : Shape Float) (per : ℕ) (n : c .n ≡ d .n) (same : (i : ℕ) → i < c .n + 4 → at1 plain (c .knots) i ≡ at1 plain (d .knots) i) where
+  same-pairs : (m : ℕ) → m ≤ c .n + 3 → soFar (c .knots) per m ≡ soFar (d .knots) per m
+  unfolding turns
+  same-pairs zero h = refl
+  same-pairs (suc m) h =
+      let before = same-pairs m (omega arith) in
+      let w0 = same (0 + m) (omega arith) in
+      let w1 = same (0 + m + 1) (omega arith) in
+      λ k. before k ++ risingSamples (w0 k) (w1 k) per
+
+  pub same-samples : samplesOf c per ≡ samplesOf d per
+  unfolding samplesOf
+  same-samples =
+      let pairs : pairsOf (c .n) (c .knots) per ≡ pairsOf (d .n) (d .knots) per =
+      same-pairs (c .n + 3 - 0) (omega arith) ∙ ap (λ (m : ℕ). pairsOf m (d .knots) per) n in
+      let end : at1 plain (c .knots) (c .n + 3) ≡ at1 plain (d .knots) (d .n + 3) =
+      same (c .n + 3) (omega arith) ∙ ap (λ (m : ℕ). at1 plain (d .knots) (m + 3)) n in
+      λ k. pairs k ++ (end k ∷ [])
 
 -- the count stands beside an outcome
 module _ {r : Refusal} {out′ : List Float} {o : Outcome} (e : outcome r out′ ≡ o) (k n : ℕ) where

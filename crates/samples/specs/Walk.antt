@@ -1,9 +1,7 @@
--- Inner: the samples in a room of their own, as the questions that take them walk along them.
-use mathlib.Core.Bool.{_&&_, cond}
+-- Inner: the samples in a room of their own, from which they are delivered.
 use mathlib.Core.List.{List, [], _++_}
 use Prim.Native.Nat.{ℕ}
 use lib.ListN.{length, drop}
-use lib.Dec.{leb}
 use lib.Ieee.{Float}
 use Rattle.samples.specs.Samples.{samplesOf}
 
@@ -15,8 +13,8 @@ pub record Walked : Type 0 where
 abbrev pub walked : ℕ → List Float → Walked
 walked k room = record { count = k; room = room }
 
--- the samples at the front of the room, where there is such a curve and such a number of them; the control points do not matter
+-- the samples at the front of the room; the control points do not matter
 unfoldable pub walkOf : ℕ → List Float → ℕ → List Float → Walked
 walkOf n us per room =
     let l = samplesOf (record { n = n; xs = []; ys = []; knots = us }) per in
-    cond (leb n 66 && leb per 16) (walked (length l) (l ++ drop (length l) room)) (walked 0 room)
+    walked (length l) (l ++ drop (length l) room)

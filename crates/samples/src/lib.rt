@@ -1,18 +1,26 @@
 // Parameters spread over the domain of a curve. A curve is checked again, whoever made it.
 ghost use mathlib.Core.Path.{_≡_};
 ghost use mathlib.Core.List.{[], _++_};
-ghost use Prim.Native.Nat.{_+_, _*_, _/_, _≤_};
-ghost use lib.ListN.{length, take, drop};
+ghost use Prim.Native.Nat.{_+_, _*_, _/_, _≤_, _<_};
+ghost use lib.ListN.{length, drop};
 ghost use lib.Seq.{paste};
 ghost use Rattle.meaning.specs.Search.{listed};
-ghost use Rattle.knots.proofs.Accepted.{Accepted};
 ghost use Rattle.shape.specs.Offered.{inSlices};
 ghost use Rattle.shape.specs.Trusting.{trusting};
 ghost use Rattle.curve.specs.Record.{byRecord};
 ghost use Rattle.samples.specs.Walk.{walked, walkOf};
 ghost use Rattle.samples.specs.Samples.{sampleAt, risingSamples, pairsOf, counted, samplesAnswer};
 use curve::Curve;
+use knots::Form;
 use refusal::Refusal;
+
+// Sample s of per between w0 and w1.
+// Corresponds to spline.rs: the number that Curve::samples pushes.
+pub fn sample_at(w0: f64, w1: f64, per: u8, s: u8) -> f64
+    ensures { λ r. ⌜ r ≡ sampleAt w0 w1 per s ⌝ }
+{
+    w0 + (w1 - w0) * s as f64 / per as f64
+}
 
 // Puts per samples between w0 and w1 into room from index at on.
 fn sample_pair(room: &mut [f64], at: usize, w0: f64, w1: f64, per: usize)
@@ -20,7 +28,7 @@ fn sample_pair(room: &mut [f64], at: usize, w0: f64, w1: f64, per: usize)
     ensures { λ _. ⌜ now (room .exit) ≡ paste (now (room .entry)) at (listed 0 per (sampleAt w0 w1 per)) per ⌝ }
 {
     for s in 0..per {
-        room[at + s] = w0 + (w1 - w0) * s as f64 / per as f64;
+        room[at + s] = sample_at(w0, w1, per as u8, s as u8);
     }
 }
 
@@ -38,8 +46,8 @@ fn sample_rising(room: &mut [f64], at: usize, w0: f64, w1: f64, per: usize) -> u
 }
 
 // Puts the samples of each rising pair of knots into room, one pair after the other, and answers how many there are.
-fn sample_pairs<'a>(u: &'a [f64; 70], n: usize, per: usize, room: &mut [f64]) -> usize
-    requires { ⌜ n ≤ 66 ⌝ ∗ ⌜ per ≤ 16 ⌝ ∗ ⌜ 1105 ≤ length (now room) ⌝ }
+fn sample_pairs(u: &[f64], n: usize, per: usize, room: &mut [f64]) -> usize
+    requires { ⌜ n ≤ 66 ⌝ ∗ ⌜ n + 3 < length (now u) ⌝ ∗ ⌜ per ≤ 16 ⌝ ∗ ⌜ 1105 ≤ length (now room) ⌝ }
     ensures { λ r. ⌜ r ≤ 1104 ⌝ ∗ ⌜ r ≡ length (pairsOf n (now (u .entry)) per) ⌝
         ∗ ⌜ now (room .exit) ≡ pairsOf n (now (u .entry)) per ++ drop r (now (room .entry)) ⌝ }
 {
@@ -51,32 +59,20 @@ fn sample_pairs<'a>(u: &'a [f64; 70], n: usize, per: usize, room: &mut [f64]) ->
     at
 }
 
-// Puts the samples of a curve with n control points into room, those of each rising pair and then the domain's end, and answers how many there are;
-// none where no curve has so many control points, or where per is above 16.
+// Puts the samples of a curve with n control points into room, those of each rising pair and then the domain's end, and answers how many there are.
 // Corresponds to spline.rs: Curve::samples.
-pub fn walk<'a>(n: usize, u: &'a [f64; 70], per: usize, room: &mut [f64; 1105]) -> usize
+fn walk(n: usize, u: &[f64], per: usize, room: &mut [f64; 1105]) -> usize
+    requires { ⌜ n ≤ 66 ⌝ ∗ ⌜ n + 3 < length (now u) ⌝ ∗ ⌜ per ≤ 16 ⌝ }
     ensures { λ r. ⌜ walked r (now (room .exit)) ≡ walkOf n (now (u .entry)) per (now (room .entry)) ⌝ ∗ ⌜ r ≤ 1105 ⌝ }
 {
-    if n > 66 {
-        return 0;
-    }
-    if per > 16 {
-        return 0;
-    }
     let at = sample_pairs(u, n, per, room);
     room[at] = u[n + 3];
     at + 1
 }
 
 // The samples of the domain, and how many there are: the control points do not matter.
-fn answer_samples<'a>(
-    n: usize,
-    u: &'a [f64; 70],
-    per: usize,
-    out: &mut [f64],
-    count: &mut u64,
-) -> Refusal
-    requires { ⌜ Accepted (take (n + 4) (now u)) n ⌝ }
+fn answer_samples(n: usize, u: &[f64], per: usize, out: &mut [f64], count: &mut u64) -> Refusal
+    requires { ⌜ n ≤ 66 ⌝ ∗ ⌜ n + 3 < length (now u) ⌝ }
     ensures { λ r. ⌜ counted r (now (out .exit)) (now (count .exit))
         ≡ samplesAnswer (trusting n [] [] (now (u .entry))) per (now (out .entry)) (now (count .entry)) ⌝ }
 {
@@ -115,10 +111,9 @@ pub fn samples_slices(
     ensures { λ r. ⌜ counted r (now (out .exit)) (now (count .exit))
         ≡ samplesAnswer (inSlices (now (coords .entry)) (now (knots .entry))) per (now (out .entry)) (now (count .entry)) ⌝ }
 {
-    let b = curve::assemble(coords, true, knots);
-    if b.refusal.number != 0 {
-        return b.refusal;
+    let r = shape::check_handles(Form::Control, coords, true, knots);
+    if r.number != 0 {
+        return r;
     }
-    let made = b.curve;
-    answer_samples(made.points, &made.knots, per, out, count)
+    answer_samples(coords.len() / 2, knots, per, out, count)
 }

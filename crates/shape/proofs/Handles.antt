@@ -2,14 +2,15 @@
 use mathlib.Core.Path.{_≡_, sym, ap, _∙_}
 use mathlib.Core.Bool.{Bool, true, false, not}
 use mathlib.Core.List.{List, [], _∷_, _++_}
-use Prim.Native.Nat.{ℕ, _+_, _%_, _≤_}
+use Prim.Native.Nat.{ℕ, _+_, _%_, _≤_, _<_}
 use native.Mathlib.Omega.{arith}
 use borrow.Author.Tests.{eq-eqb, ne-eqb}
 use lib.ListN.{length, take, drop, replicate, length-replicate}
-use lib.Seq.{take-all, take-at, length-take-le}
+use lib.Seq.{take-all, take-at, length-take-le, getD-take}
 use lib.Dec.{T}
-use lib.Ieee.{Float}
-use Rattle.meaning.specs.Scalar.{zero64}
+use lib.Ieee.{Float, nan}
+use Rattle.meaning.specs.Scalar.{plain, zero64}
+use Rattle.meaning.specs.Table.{at1}
 use Rattle.refusal.specs.declared.Refusal.{Refusal}
 use Rattle.refusal.specs.Refusals.{row, firstOf, refusal}
 use Rattle.refusal.proofs.Rows.{Passed, number-of, numbered, row-applies, row-passes, row-passed, no-rows, second-decides, first-decides, both-pass, passed-none}
@@ -73,7 +74,14 @@ given-front ks n l r =
     ∙ take-at (take (n + 4) ks) (drop (0 + (n + 4)) zeros) (n + 4) (length-take-le (n + 4) ks (omega arith))
     ∙ take-all (n + 4) ks (omega arith)
 
+-- one by one
+pub given-at : (ks : List Float) (n : ℕ) → length ks ≡ n + 4 → n ≤ 66 → (i : ℕ) → i < n + 4 → at1 plain (givenKnots n ks) i ≡ at1 plain ks i
+given-at ks n l r i h = sym (getD-take (n + 4) (givenKnots n ks) i nan h) ∙ ap (λ (x : List Float). at1 plain x i) (given-front ks n l r)
+
+pub slices-accepted : (coords ks : List Float) → Passed (handleRules Control coords true ks) → Accepted ks (pointsIn coords)
+slices-accepted coords ks h = accepted ks (pointsIn coords) (handles-passed-knots Control coords true ks h)
+
 pub slices-trusted : (coords ks : List Float) → Passed (handleRules Control coords true ks) → Accepted (take (pointsIn coords + 4) (givenKnots (pointsIn coords) ks)) (pointsIn coords)
 slices-trusted coords ks h =
-    let a = accepted ks (pointsIn coords) (handles-passed-knots Control coords true ks h) in
+    let a = slices-accepted coords ks h in
     rw (given-front ks (pointsIn coords) (a .sound .long) (a .room)) a

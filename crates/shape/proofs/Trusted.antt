@@ -75,3 +75,7 @@ module _ (k : ℕ) (s : Shape Float) {r : Refusal} (known : r ≡ firstOf (knotR
 pub trusted : (k : ℕ) (s : Shape Float) → Passed (shapeRules k s) → Accepted (take (s .n + 4) (s .knots)) (s .n)
 unfolding shapeRules
 trusted k s h = counted (s .n) k (s .knots) (both-pass (knotRules Control (s .n) true (countedKnots k (s .knots))) _ (numbered-knots Control _ true _) h .0)
+
+-- and are all there
+pub knots-reach : (us : List Float) (n : ℕ) → Accepted (take (n + 4) us) n → n + 3 < length us
+knots-reach us n a = let l = a .sound .long in let m = length-take (n + 4) us in omega arith

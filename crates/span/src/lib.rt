@@ -1,9 +1,11 @@
 // The span of a parameter, found by halving.
 ghost use mathlib.Core.Path.{_≡_};
+ghost use mathlib.Core.Bool.{true};
 ghost use Prim.Native.Nat.{_+_, _≤_, _<_};
 ghost use lib.ListN.{length};
 ghost use Rattle.span.specs.Span.{IsSpan};
 ghost use Rattle.span.specs.Halving.{narrow, halvedOf};
+ghost use Rattle.span.specs.Within.{within};
 
 // The two ends of a search among the knots.
 struct Ends {
@@ -59,4 +61,30 @@ pub fn span(u: &[f64], n: usize, t: f64) -> usize
         return 3;
     }
     halved(u, n, t)
+}
+
+// Whether t lies past knot 3 and in span i, for who has an i to try: among knots that do not fall i is then the span of t.
+// Corresponds to spline.rs: what Curve::span looks for.
+pub fn within(u: &[f64], n: usize, t: f64, i: usize) -> bool
+    ensures { λ r. ⌜ r ≡ within (now (u .entry)) n t i ⌝ ∗ ⌜ (r ≡ true → (3 ≤ i) × (i ≤ 65)) ⌝ }
+{
+    if i < 3 {
+        return false;
+    }
+    if i >= n {
+        return false;
+    }
+    if n > 66 {
+        return false;
+    }
+    if n >= u.len() {
+        return false;
+    }
+    if t <= u[3] {
+        return false;
+    }
+    if u[i] <= t {
+        return t < u[i + 1];
+    }
+    false
 }

@@ -1,7 +1,7 @@
 // The library for C and Rust to link: the same proved functions, over numbers and slices. include/threshdune.h declares the curves,
 // include/threshdune_parts.h the rest. What C is told of a refusal is its number.
 ghost use mathlib.Core.Path.{_≡_};
-ghost use mathlib.Core.Bool.{false};
+ghost use mathlib.Core.Bool.{false, cond};
 ghost use mathlib.Core.List.{[]};
 ghost use lib.Ieee.Scale.{finite};
 ghost use Rattle.meaning.specs.Root.{rootOf};
@@ -17,9 +17,13 @@ ghost use Rattle.shape.specs.Offered.{inSlices};
 ghost use Rattle.build.specs.Build.{sliced, builtInto};
 ghost use Rattle.hull.specs.Promise.{InItsHull, NeverRefused};
 ghost use Rattle.point.specs.Point.{pointAnswer, tangentAnswer};
+ghost use Rattle.many.specs.Many.{many};
+ghost use Rattle.points.specs.Points.{pointsAnswer, EachInItsHull, NoneRefused};
 ghost use Rattle.measure.specs.Measure.{lengthAnswer, domainAnswer};
 ghost use Rattle.samples.specs.Samples.{counted, samplesAnswer};
 ghost use Rattle.closest.specs.Search.{closestAnswer};
+ghost use Rattle.closest.specs.Many.{closestMany};
+ghost use Rattle.residual.specs.Residual as held;
 ghost use Rattle.c_values.specs.Crossing.{isGiven, readDv, readV, readSix, AnsweredD, AnsweredV, AnsweredP, AnsweredB};
 ghost use Rattle.c_curves.specs.Curves.{asRecord, behind, handed};
 use knots::Form;
@@ -95,6 +99,27 @@ pub extern "C" fn threshdune_evaluate(
     r.number
 }
 
+// The points at the parameters ts with their derivatives up to the order, each in its place, and the refusal of each.
+#[no_mangle]
+pub extern "C" fn threshdune_evaluate_many(
+    coords: &[f64],
+    knots: &[f64],
+    ts: &[f64],
+    order: u64,
+    out: &mut [f64],
+    refusals: &mut [u64],
+) -> u64
+    ensures answer { λ r. ⌜ many (refusal r) (now (out .exit)) (now (refusals .exit))
+        ≡ pointsAnswer (inSlices (now (coords .entry)) (now (knots .entry))) (now (ts .entry)) order (now (out .entry)) (now (refusals .entry)) ⌝ }
+    ensures hull { λ r. ⌜ EachInItsHull (inSlices (now (coords .entry)) (now (knots .entry))) (now (ts .entry)) order (refusal r)
+        (now (out .exit)) (now (refusals .exit)) ⌝ }
+    ensures never { λ r. ⌜ NoneRefused (inSlices (now (coords .entry)) (now (knots .entry))) (now (ts .entry)) order (now (out .entry))
+        (refusal r) (now (refusals .exit)) ⌝ }
+{
+    let r = points::evaluate_many_slices(coords, knots, ts, order as usize, out, refusals);
+    r.number
+}
+
 // The point at t and the unit tangent.
 #[no_mangle]
 pub extern "C" fn threshdune_point_tangent(
@@ -167,6 +192,75 @@ pub extern "C" fn threshdune_closest(
         ≡ handed (closestAnswer (inSlices (now (coords .entry)) (now (knots .entry))) (record { x = px; y = py })) 0 (now (t .entry)) ⌝ }
 {
     let r = c_curves::hand_number(closest::closest_slices(coords, knots, px, py), t);
+    r.number
+}
+
+// The parameters of the curve's points that lie nearest to these points, x and y in turn, each in its place, and the refusal of each.
+#[no_mangle]
+pub extern "C" fn threshdune_closest_many(
+    coords: &[f64],
+    knots: &[f64],
+    points: &[f64],
+    out: &mut [f64],
+    refusals: &mut [u64],
+) -> u64
+    ensures { λ r. ⌜ many (refusal r) (now (out .exit)) (now (refusals .exit))
+        ≡ closestMany (inSlices (now (coords .entry)) (now (knots .entry))) (now (points .entry)) (now (out .entry)) (now (refusals .entry)) ⌝ }
+{
+    let r = closest::closest_many_slices(coords, knots, points, out, refusals);
+    r.number
+}
+
+// The residuals of the point (px, py), held on the curve of these handles at t, with a row of their partials for each. The handles are fit points where
+// fit is not 0, else control points, over the knots where given is not 0.
+#[no_mangle]
+pub extern "C" fn threshdune_residual(
+    handles: &[f64],
+    fit: u64,
+    given: u64,
+    knots: &[f64],
+    px: f64,
+    py: f64,
+    t: f64,
+    work: &mut [f64],
+    counts: &mut [u8],
+    residuals: &mut [f64],
+    rows: &mut [f64],
+) -> u64
+    ensures { λ r. ⌜ held.outcome (refusal r) (now (work .exit)) (now (counts .exit)) (now (residuals .exit)) (now (rows .exit))
+        ≡ held.residualAnswer
+        (held.asked (cond (isGiven fit) Fit Control) (now (handles .entry)) (isGiven given) (now (knots .entry)) px py t)
+        (held.lent (now (work .entry)) (now (counts .entry)) (now (residuals .entry)) (now (rows .entry))) ⌝ }
+{
+    if fit != 0 {
+        let r = residual::residual(
+            Form::Fit,
+            handles,
+            given != 0,
+            knots,
+            px,
+            py,
+            t,
+            work,
+            counts,
+            residuals,
+            rows,
+        );
+        return r.number;
+    }
+    let r = residual::residual(
+        Form::Control,
+        handles,
+        given != 0,
+        knots,
+        px,
+        py,
+        t,
+        work,
+        counts,
+        residuals,
+        rows,
+    );
     r.number
 }
 
@@ -618,6 +712,32 @@ pub extern "C" fn threshdune_record_evaluate(
     r.number
 }
 
+// The points at the parameters ts with their derivatives up to the order, each in its place, and the refusal of each.
+#[no_mangle]
+pub extern "C" fn threshdune_record_evaluate_many(
+    points: u64,
+    knot_count: u64,
+    xs: &[f64],
+    ys: &[f64],
+    knots: &[f64],
+    ts: &[f64],
+    order: u64,
+    out: &mut [f64],
+    refusals: &mut [u64],
+) -> u64
+    ensures answer { λ r. ⌜ many (refusal r) (now (out .exit)) (now (refusals .exit))
+        ≡ pointsAnswer (asRecord points «knot_count» (now (xs .entry)) (now (ys .entry)) (now (knots .entry))) (now (ts .entry)) order
+        (now (out .entry)) (now (refusals .entry)) ⌝ }
+    ensures hull { λ r. ⌜ EachInItsHull (asRecord points «knot_count» (now (xs .entry)) (now (ys .entry)) (now (knots .entry))) (now (ts .entry))
+        order (refusal r) (now (out .exit)) (now (refusals .exit)) ⌝ }
+    ensures never { λ r. ⌜ NoneRefused (asRecord points «knot_count» (now (xs .entry)) (now (ys .entry)) (now (knots .entry))) (now (ts .entry))
+        order (now (out .entry)) (refusal r) (now (refusals .exit)) ⌝ }
+{
+    let c = c_curves::read_curve(points, knot_count, xs, ys, knots);
+    let r = points::evaluate_many(c, ts, order as usize, out, refusals);
+    r.number
+}
+
 // The point at t and the unit tangent.
 #[no_mangle]
 pub extern "C" fn threshdune_record_point_tangent(
@@ -717,5 +837,26 @@ pub extern "C" fn threshdune_record_closest(
 {
     let c = c_curves::read_curve(points, knot_count, xs, ys, knots);
     let r = c_curves::hand_number(closest::closest(c, px, py), t);
+    r.number
+}
+
+// The parameters of the curve's points that lie nearest to these marks, x and y in turn, each in its place, and the refusal of each.
+#[no_mangle]
+pub extern "C" fn threshdune_record_closest_many(
+    points: u64,
+    knot_count: u64,
+    xs: &[f64],
+    ys: &[f64],
+    knots: &[f64],
+    marks: &[f64],
+    out: &mut [f64],
+    refusals: &mut [u64],
+) -> u64
+    ensures { λ r. ⌜ many (refusal r) (now (out .exit)) (now (refusals .exit))
+        ≡ closestMany (asRecord points «knot_count» (now (xs .entry)) (now (ys .entry)) (now (knots .entry))) (now (marks .entry))
+        (now (out .entry)) (now (refusals .entry)) ⌝ }
+{
+    let c = c_curves::read_curve(points, knot_count, xs, ys, knots);
+    let r = closest::closest_many(c, marks, out, refusals);
     r.number
 }

@@ -1,4 +1,5 @@
 -- `basis_partials::column_of` meets its contract: each turn of the loop is `columnTurn`.
+use mathlib.Core.Path.{refl}
 use Prim.Native.Nat.{_-_}
 use Rattle.partials.specs.Dual.{dual}
 use Rattle.meaning.proofs.For.{At, first, next, last}
@@ -45,7 +46,10 @@ loop-less : tie.Need-loop-less Inv-loop μ-loop
 loop-less c = search needs
 
 loop-again : tie.Need-loop-again Inv-loop μ-loop
-loop-again c = next (c .before .before .before .before .before .before .before .before .loop .inv) (c .before .before .before .before .before .before .before .loop-test .taken) (column-turn dual _ _ _ _ _ (c .before .before .before .cell-of .ensures))
+loop-again c =
+    let start = c .before .before .before .before .before .before .before .before in
+    let test = c .before .before .before .before .before .before .before .loop-test in
+    next (start .loop .inv) (test .taken) (column-turn dual _ _ _ _ _ (c .before .before .before .cell-of .ensures) refl)
 
 index-1-saved : tie.Need-index-1-saved Inv-loop μ-loop
 index-1-saved c = search needs

@@ -27,14 +27,14 @@ both-of c = c .before .before .before
 
 -- the square and the distance
 squared : (c : tie.After-both) → c .before .square .result ≡ squareAt (shape (start-of c)) (view (start-of c .args .p)) (start-of c .args .t)
-squared c = let s = start-of c in square-is _ (s .pre) (view (s .args .p)) (s .args .t) (c .before .before .orders .ensures) (c .before .square .ensures)
+squared c = let s = start-of c in square-is _ (s .pre) (view (s .args .p)) (s .args .t) (s .args .i) (c .before .before .point-near .ensures) (c .before .square .ensures)
 
 rooted : (c : tie.After-distance)
     → let s = start-of (both-of c) in c .distance .result ≡ distanceAt (shape s) (view (s .args .p)) (s .args .t)
 rooted c =
     let b = both-of c in
     let s = start-of b in
-    distance-is _ (s .pre) (view (s .args .p)) (s .args .t) (b .before .before .orders .ensures) (c .distance .ensures)
+    distance-is _ (s .pre) (view (s .args .p)) (s .args .t) (s .args .i) (b .before .before .point-near .ensures) (c .distance .ensures)
 
 -- every distance so far is finite, and this one
 fine : (c : tie.After-both) → c .both .result ≡ (start-of c .args .b .fine && lt (c .before .square .result) (inf false))
@@ -64,5 +64,4 @@ returns-3 c =
 pub sample-spec : {M : Type 1} → statement M
 sample-spec =
     tie.close
-    (tie.spec (search needs) (search needs) (search needs) (search needs) float-from-bits-infinite (search needs)
-    returns (search needs) returns-2 returns-3)
+    (tie.spec (search needs) (search needs) float-from-bits-infinite (search needs) returns (search needs) returns-2 returns-3)

@@ -1,7 +1,9 @@
 -- `evaluate::inside` meets its contract: the four control points of the span, in a row.
-use mathlib.Core.Path.{refl, _∙_}
+use mathlib.Core.Path.{refl, ap, _∙_}
 use Prim.Native.Nat.{_+_}
 use denote.Ref.{now}
+use Rattle.meaning.specs.Scalar.{plain}
+use Rattle.evaluate.specs.Point.{placed}
 use Rattle.evaluate.proofs.Pieces.{weighted-row, on-span-is}
 use borrow.Author.Needs.{needs}
 use Rattle.evaluate.proofs.inside.Statement.{statement}
@@ -16,8 +18,9 @@ returns c =
     let at = i .span .result in
     c .on-span .ensures
     ∙ rw (y .four2 .ensures, x .four .ensures)
-    (on-span-is _ (record { n = a .n; xs = now (a .xs); ys = now (a .ys); knots = now (a .u) }) (a .t) (a .nd) (now (a .u)) at at _ _ (a .nd + 1)
-    (i .span .ensures .0) refl (weighted-row (now (a .xs)) at) (weighted-row (now (a .ys)) at))
+    (ap (placed plain (a .nd + 1))
+    (on-span-is plain _ (record { n = a .n; xs = now (a .xs); ys = now (a .ys); knots = now (a .u) }) (a .t) (a .nd) (now (a .u)) at at _ _
+    (i .span .ensures .0) refl (weighted-row plain (now (a .xs)) at) (weighted-row plain (now (a .ys)) at)))
 
 pub inside-spec : {M : Type 1} → statement M
 inside-spec =

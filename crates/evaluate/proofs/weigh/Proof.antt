@@ -24,7 +24,7 @@ loop-again : tie.Need-loop-again Inv-loop μ-loop
 loop-again c =
     let l = c .before .before in
     let a = l .before .args in
-    next (l .loop .inv) (search needs) (weigh-turn (now (a .a)) (a .t2) (l .loop .j) (l .loop .s))
+    next (l .loop .inv) (search needs) (weigh-turn plain (now (a .a)) (a .t2) (l .loop .j) (l .loop .s))
 
 returns : tie.Need-returns Inv-loop μ-loop
 unfolding weighted

@@ -9,22 +9,22 @@ use Rattle.fit.proofs.fill_at.Statement.{statement}
 use Rattle.fit.proofs.fill_at.Tie as tie
 
 mul-a : tie.Need-mul-a
-mul-a c = let s = c .before .before in omega (arith, row-le (s .args .r) (s .args .n + 2) (s .args .n + 2 + 2) (s .pre .1))
+mul-a c = let s = c .before .before in omega (arith, row-le (s .args .r) (s .args .n + 2) (s .args .n + 2 + 2) (s .pre .2))
 
 add-e : tie.Need-add-e
-add-e c = let s = c .before .before in omega (arith, row-le (s .args .r) (s .args .n + 2) (s .args .n + 2 + 2) (s .pre .1))
+add-e c = let s = c .before .before in omega (arith, row-le (s .args .r) (s .args .n + 2) (s .args .n + 2 + 2) (s .pre .2))
 
 mul-system-row : tie.Need-mul-system-row
-mul-system-row c = let s = c .before .before in omega (arith, row-le (s .args .r) (s .args .n + 2) (s .args .n + 2 + 2) (s .pre .1))
+mul-system-row c = let s = c .before .before in omega (arith, row-le (s .args .r) (s .args .n + 2) (s .args .n + 2 + 2) (s .pre .2))
 
 part-system-row-end : tie.Need-part-system-row-end
-part-system-row-end c = let s = c .before .before in omega (arith, row-le (s .args .r) (s .args .n + 2) (s .args .n + 2 + 2) (s .pre .1))
+part-system-row-end c = let s = c .before .before in omega (arith, row-le (s .args .r) (s .args .n + 2) (s .args .n + 2 + 2) (s .pre .2))
 
 returns : tie.Need-returns
 returns c =
     let s = c .before .before .before .before .before .before in
     let call = c .before .before .system-row .ensures in
-    record { held = λ M rest e sh. rw (call .held) (back-row rest (now (s .args .w)) (s .args .r) e sh (s .pre .1) _); judged = call .judged }
+    record { held = λ M rest e sh. rw (call .held) (back-row rest (now (s .args .w)) (s .args .r) e sh (s .pre .2) _); judged = call .judged }
 
 pub fill-at-spec : {M : Type 1} → statement M
 fill-at-spec =

@@ -20,7 +20,7 @@ abbrev μ-loop : tie.MeasureT-loop
 μ-loop s n p₀ last all sum₀ k₀ p sum k = n - 1 - k
 
 loop-holds : tie.Need-loop-holds Inv-loop μ-loop
-loop-holds c = (search needs, search needs, sum-none plain _, parameters-begin _ _)
+loop-holds c = (search needs, search needs, sum-none plain _, parameters-begin plain _ _ 63)
 
 loop-again : tie.Need-loop-again Inv-loop μ-loop
 loop-again c =

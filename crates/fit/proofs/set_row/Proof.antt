@@ -5,6 +5,12 @@ use borrow.Author.Needs.{needs}
 use Rattle.fit.proofs.set_row.Statement.{statement}
 use Rattle.fit.proofs.set_row.Tie as tie
 
+fill-row-requires : tie.Need-fill-row-requires
+fill-row-requires c κs =
+    let start = c .before .before .before .before .before .before in
+    let found = c .before .before .before .span .ensures in
+    (search needs, search needs, found .1 .1 .0, found .1 .1 .1 .1 (start .pre .0))
+
 returns : tie.Need-returns
 unfolding foundRow rowOf rowAt
 returns c =
@@ -16,4 +22,4 @@ returns c =
 pub set-row-spec : {M : Type 1} → statement M
 set-row-spec =
     tie.close
-    (tie.spec (search needs) (search needs) (search needs) (search needs) (search needs) (search needs) returns)
+    (tie.spec (search needs) (search needs) (search needs) (search needs) fill-row-requires (search needs) returns)

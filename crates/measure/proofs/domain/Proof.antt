@@ -1,9 +1,9 @@
 -- `measure::domain` meets its contract: the rules of the record, then the answer.
 use mathlib.Core.Path.{sym, _∙_}
 use borrow.Author.Needs.{needs}
-use Rattle.refusal.proofs.Rows.{number-of}
+use Rattle.refusal.proofs.Rows.{Passed, number-of}
 use Rattle.outcome.proofs.Doors.{tells, left-told, passed-told}
-use Rattle.shape.proofs.Trusted.{numbered-shape, trusted}
+use Rattle.shape.proofs.Trusted.{numbered-shape, trusted, knots-reach}
 use Rattle.curve.specs.Record.{byRecord}
 use Rattle.measure.specs.Measure.{domainAnswer}
 use Rattle.measure.proofs.domain.Statement.{statement}
@@ -16,18 +16,20 @@ returns : tie.Need-returns
 unfolding domainAnswer
 returns c = tells (left-told _ (c .before .before .check .ensures) (c .if1 .taken))
 
+abbrev passed : (c : tie.Else1) → Passed (byRecord (start-of c .args .t1) .rules)
+passed c = number-of (sym (c .before .before .check .ensures)) ∙ c .if1 .left
+
 answer-domain-requires : tie.Need-answer-domain-requires
 answer-domain-requires c κs =
-    let t = c .before .before in
-    trusted _ (byRecord (start-of t .args .t1) .shape) (number-of (sym (t .before .before .check .ensures)) ∙ t .if1 .left)
+    let t = c .before .before .before in
+    let r = start-of t .args .t1 in
+    knots-reach (r .knots) (r .points) (trusted _ (byRecord r .shape) (passed t))
 
 returns-2 : tie.Need-returns-2
 unfolding domainAnswer
 returns-2 c =
-    let t = c .before .before .before in
-    tells
-    (passed-told (byRecord (start-of t .args .t1) .rules) (numbered-shape _ _) (number-of (sym (t .before .before .check .ensures)) ∙ t .if1 .left)
-    (record { is = c .answer-domain .ensures }))
+    let t = c .before .before .before .before in
+    tells (passed-told (byRecord (start-of t .args .t1) .rules) (numbered-shape _ _) (passed t) (record { is = c .answer-domain .ensures }))
 
 pub domain-spec : {M : Type 1} → statement M
 domain-spec =

@@ -1,39 +1,45 @@
 -- `measure::domain_slices` meets its contract: the rules of the slices, then the answer.
-use mathlib.Core.Path.{ap, _∙_}
+use mathlib.Core.Path.{sym, ap, _∙_}
 use mathlib.Core.Bool.{true}
+use mathlib.Core.List.{List, []}
+use native.Mathlib.Omega.{arith}
 use borrow.Author.Needs.{needs}
 use denote.Ref.{now}
+use lib.Ieee.{Float}
+use Rattle.refusal.proofs.Rows.{Passed, number-of}
 use Rattle.knots.specs.declared.Form.the-variants.{Control}
+use Rattle.outcome.specs.Told.{telling}
 use Rattle.outcome.proofs.Doors.{tells, left-told, passed-told}
 use Rattle.shape.specs.Rules.{handleRules}
-use Rattle.shape.specs.Trusting.{trusting}
-use Rattle.shape.proofs.Handles.{numbered-handles}
-use Rattle.curve.specs.declared.Curve.{Curve}
-use Rattle.curve.proofs.Builds.{built-refusal, built-passed, built-curve}
-use Rattle.curve.proofs.Assembled.{assembled-trusted}
+use Rattle.shape.proofs.Handles.{numbered-handles, slices-accepted}
 use Rattle.measure.specs.Measure.{domainAnswer}
+use Rattle.measure.proofs.Walked.{slice-domain}
 use Rattle.measure.proofs.domain_slices.Statement.{statement}
 use Rattle.measure.proofs.domain_slices.Tie as tie
 
+abbrev start-of : tie.Else1 → tie.Start
+start-of c = c .before .before .before .before .before
+
+abbrev passed : (c : tie.Else1) → let a = start-of c .args in Passed (handleRules Control (now (a .coords)) true (now (a .knots)))
+passed c = number-of (sym (c .before .before .check-handles .ensures)) ∙ c .if1 .left
+
 returns : tie.Need-returns
 unfolding domainAnswer
-returns c = tells (left-told _ (built-refusal _ _ (c .before .before .before .assemble .ensures)) (c .if1 .taken))
+returns c = tells (left-told _ (c .before .before .check-handles .ensures) (c .if1 .taken))
 
 answer-domain-requires : tie.Need-answer-domain-requires
-answer-domain-requires c κs =
-    let t = c .before .before .before in
-    assembled-trusted _ _ (t .before .before .before .assemble .ensures) (t .if1 .left)
+answer-domain-requires c κs = let a = start-of c .args in let k = slices-accepted (now (a .coords)) (now (a .knots)) (passed c) in omega (arith, k .sound .long)
 
 returns-2 : tie.Need-returns-2
 unfolding domainAnswer
 returns-2 c =
-    let t = c .before .before .before .before in
-    let b = t .before .before .before in
-    let a = b .before .before .before .args in
-    let made = built-curve _ _ (b .assemble .ensures) (t .if1 .left) in
+    let t = c .before in
+    let a = start-of t .args in
+    let coords = now (a .coords) in
+    let ks = now (a .knots) in
     tells
-    (passed-told (handleRules Control (now (a .coords)) true (now (a .knots))) (numbered-handles Control _ true _) (built-passed _ _ (b .assemble .ensures) (t .if1 .left))
-    (record { is = c .answer-domain .ensures ∙ ap (λ (k : Curve). domainAnswer (trusting (k .points) (k .xs) (k .ys) (k .knots))) made }))
+    (passed-told (handleRules Control coords true ks) (numbered-handles Control coords true ks) (passed t)
+    (record { is = c .answer-domain .ensures ∙ ap (λ (l : List Float). telling [] l) (slice-domain coords ks (slices-accepted coords ks (passed t))) }))
 
 pub domain-slices-spec : {M : Type 1} → statement M
 domain-slices-spec =

@@ -24,7 +24,7 @@ unfolding samplesAnswer
 returns c = count-stays (leaves (stop 12 (c .by .ensures) (lt-ltb _ _ (c .before .if1 .taken)))) _ _ (λ z. suc-ne-zero 12 (number-of (sym (c .by .ensures)) ∙ z))
 
 abbrev start-of : tie.After-walk → tie.Start
-start-of c = c .before .before .before .before
+start-of c = c .before .before .before .before .before
 
 abbrev samples : tie.After-walk → List Float
 samples c = let a = start-of c .args in samplesOf (record { n = a .n; xs = []; ys = []; knots = now (a .u) }) (a .per)
@@ -35,12 +35,12 @@ room-of c = c .walk .last .1 .1 .1 .0
 count-is : (c : tie.After-walk) → c .walk .result ≡ length (samples c)
 count-is c =
     let s = start-of c in
-    walk-count (s .args .n) (now (s .args .u)) (s .args .per) (s .pre .room) (c .before .before .if1 .left) (replicate 1105 zero64) (c .walk .ensures .0)
+    walk-count (s .args .n) (now (s .args .u)) (s .args .per) (replicate 1105 zero64) (c .walk .ensures .0)
 
 room-is : (c : tie.After-walk) → room-of c ≡ samples c ++ drop (length (samples c)) (replicate 1105 zero64)
 room-is c =
     let s = start-of c in
-    walk-room (s .args .n) (now (s .args .u)) (s .args .per) (s .pre .room) (c .before .before .if1 .left) (replicate 1105 zero64) (c .walk .ensures .0)
+    walk-room (s .args .n) (now (s .args .u)) (s .args .per) (replicate 1105 zero64) (c .walk .ensures .0)
 
 -- what is delivered of the room is the answer of the curve
 answered : (c : tie.After-walk) {o : Outcome} → let out = now (start-of c .args .out) in let k = c .walk .result in

@@ -7,7 +7,6 @@ use denote.Ref.{now}
 use lib.ListN.{length}
 use lib.Seq.{paste, paste-zero, paste-suc}
 use lib.Ieee.{nan}
-use Rattle.meaning.proofs.Whole.{held}
 use Rattle.meaning.specs.Search.{listed}
 use Rattle.meaning.proofs.Filling.{length-listed}
 use Rattle.samples.specs.Samples.{sampleAt}
@@ -25,31 +24,25 @@ abbrev μ-loop : tie.MeasureT-loop
 
 loop-holds : tie.Need-loop-holds Inv-loop μ-loop
 loop-holds c =
-    let a = c .args in
+    let a = c .before .args in
     (search needs, search needs, paste-zero (now (a .room)) (a .at) (listed 0 (a .per) (sampleAt (a .w0) (a .w1) (a .per))))
-
-int-to-float-room : tie.Need-int-to-float-room Inv-loop μ-loop
-int-to-float-room c = held _ (omega arith)
-
-int-to-float-room-2 : tie.Need-int-to-float-room-2 Inv-loop μ-loop
-int-to-float-room-2 c = held _ (omega arith)
 
 loop-again : tie.Need-loop-again Inv-loop μ-loop
 loop-again c =
-    let l = c .before .before .before .loop in
+    let l = c .before .before .loop in
     let a = c .before .before .before .before .args in
     let p = listed 0 (a .per) (sampleAt (a .w0) (a .w1) (a .per)) in (
       search needs,
       search needs,
-      rw (l .inv .2, add-one (l .s), sym (sample-is (a .w0) (a .w1) (a .per) (l .s) (omega arith)))
+      rw (c .sample-at .ensures, l .inv .2, add-one (l .s), sym (sample-is (a .w0) (a .w1) (a .per) (l .s) (omega arith)))
           (paste-suc (now (a .room)) (a .at) p (l .s) nan (omega arith) (omega (arith, length-listed 0 (a .per) (sampleAt (a .w0) (a .w1) (a .per))))),
     )
 
 returns : tie.Need-returns Inv-loop μ-loop
-returns c = let e : c .before .loop .s ≡ c .before .before .args .per = omega arith in rw e at (c .before .loop .inv .2)
+returns c = let e : c .before .loop .s ≡ c .before .before .before .args .per = omega arith in rw e at (c .before .loop .inv .2)
 
 pub sample-pair-spec : {M : Type 1} → statement M
 sample-pair-spec =
     tie.close
-    (tie.spec Inv-loop μ-loop loop-holds int-to-float-room int-to-float-room-2 (search needs) (search needs)
-    (search needs) (search needs) (search needs) loop-again (search needs) returns)
+    (tie.spec Inv-loop μ-loop loop-holds (search needs) (search needs) (search needs) (search needs) (search needs) (search needs)
+    (search needs) (search needs) loop-again (search needs) returns)

@@ -26,7 +26,7 @@ loop-holds c = (search needs, search needs, sampled-first _ _ _)
 loop-again : tie.Need-loop-again Inv-loop μ-loop
 loop-again c =
     let l = c .before .before .before .before .before .before .before .loop in
-    let a = c .before .before .before .before .before .before .before .before .before .args in
+    let a = c .before .before .before .before .before .before .before .before .before .before .args in
     let r = c .before .before .sample-rising in
     let p = pairSamples (now (a .u)) (a .per) (l .i) in
     let n = length-rising (at1 plain (now (a .u)) (l .i)) (at1 plain (now (a .u)) (l .i + 1)) (a .per) in (
@@ -38,7 +38,7 @@ loop-again c =
 returns : tie.Need-returns Inv-loop μ-loop
 returns c =
     let l = c .before .loop in
-    let e : l .i ≡ c .before .before .before .args .n + 3 - 0 = omega arith in
+    let e : l .i ≡ c .before .before .before .before .args .n + 3 - 0 = omega arith in
     let s = rw e at (l .inv .2) in
     (omega (arith, s .few), (sym (s .count), s .is))
 

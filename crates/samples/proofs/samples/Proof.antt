@@ -6,7 +6,7 @@ use lib.ListN.{length}
 use Rattle.refusal.proofs.Rows.{number-of}
 use Rattle.outcome.specs.Outcome.{Outcome}
 use Rattle.outcome.proofs.Doors.{leaves, refused, after}
-use Rattle.shape.proofs.Trusted.{numbered-shape, trusted}
+use Rattle.shape.proofs.Trusted.{numbered-shape, trusted, knots-reach}
 use Rattle.curve.specs.Record.{byRecord}
 use Rattle.samples.specs.Samples.{samplesOf, counting, samplesAnswer}
 use Rattle.samples.proofs.Sampled.{count-stays}
@@ -22,13 +22,15 @@ returns c = count-stays (leaves (refused _ _ (c .before .before .check .ensures)
 
 answer-samples-requires : tie.Need-answer-samples-requires
 answer-samples-requires c κs =
-    let t = c .before .before .before .before in
-    trusted _ (byRecord (start-of t .args .t1) .shape) (number-of (sym (t .before .before .check .ensures)) ∙ t .if1 .left)
+    let t = c .before .before .before .before .before in
+    let r = start-of t .args .t1 in
+    let k = trusted _ (byRecord r .shape) (number-of (sym (t .before .before .check .ensures)) ∙ t .if1 .left) in
+    (k .room, knots-reach (r .knots) (r .points) k)
 
 returns-2 : tie.Need-returns-2
 unfolding samplesAnswer samplesOf
 returns-2 c =
-    let t = c .before .before .before .before .before .before .before in
+    let t = c .before .before .before .before .before .before .before .before in
     let a = start-of t .args in
     let k = length (samplesOf (byRecord (a .t1) .shape) (a .per)) in
     c .before .before .answer-samples .ensures

@@ -4,7 +4,6 @@ use mathlib.Core.List.{List, [], _++_}
 use Prim.Native.Nat.{ℕ, _+_}
 use native.Mathlib.Omega.{arith}
 use borrow.Author.Needs.{needs}
-use borrow.Author.Tests.{le-leb, lt-leb}
 use denote.Ref.{now}
 use lib.ListN.{length, drop}
 use lib.Ieee.{Float}
@@ -17,38 +16,16 @@ use Rattle.samples.proofs.walk.Tie as tie
 
 returns : tie.Need-returns
 unfolding walkOf
-returns c = (rw (lt-leb _ _ (c .if1 .taken)), omega arith)
-
-returns-2 : tie.Need-returns-2
-unfolding walkOf
-returns-2 c = (rw (le-leb _ _ (c .before .if1 .left), lt-leb _ _ (c .if2 .taken)), omega arith)
-
-returns-3 : tie.Need-returns-3
-unfolding walkOf
-returns-3 c =
+returns c =
     let s = c .before .sample-pairs in
-    let t = c .before .before .before in
-    let a = t .before .before .args in
+    let a = c .before .before .before .before .args in
     let shape : Shape Float = record { n = a .n; xs = []; ys = []; knots = now (a .u) } in
     let l = samplesOf shape (a .per) in
     let k = samples-count shape (a .per) (s .ensures .1 .0) in
-    let full = samples-room shape (a .per) (now (a .room)) (omega (arith, s .ensures .0)) (s .ensures .1 .0) (s .ensures .1 .1) in (
-      rw (le-leb _ _ (t .before .if1 .left), le-leb _ _ (t .if2 .left))
-          (λ i. walked (sym k i) ((full ∙ ap (λ (m : ℕ). l ++ drop m (now (a .room))) (sym k)) i)),
-      omega (arith, s .ensures .0),
-    )
+    let full = samples-room shape (a .per) (now (a .room)) (omega (arith, s .ensures .0)) (s .ensures .1 .0) (s .ensures .1 .1) in
+    ((λ i. walked (sym k i) ((full ∙ ap (λ (m : ℕ). l ++ drop m (now (a .room))) (sym k)) i)), omega (arith, s .ensures .0))
 
 pub walk-spec : {M : Type 1} → statement M
 walk-spec =
     tie.close
-    (tie.spec
-    returns
-    returns-2
-    (search needs)
-    (search needs)
-    (search needs)
-    (search needs)
-    (search needs)
-    (search needs)
-    (search needs)
-    returns-3)
+    (tie.spec (search needs) (search needs) (search needs) (search needs) (search needs) (search needs) (search needs) returns)

@@ -1,0 +1,13 @@
+-- `evaluate_partials::inside` meets its contract.
+use mathlib.Core.Path.{_∙_}
+use Rattle.evaluate.specs.Piece.{onWindow}
+use borrow.Author.Needs.{needs}
+use Rattle.evaluate_partials.proofs.inside.Statement.{statement}
+use Rattle.evaluate_partials.proofs.inside.Tie as tie
+
+returns : tie.Need-returns
+unfolding onWindow
+returns c = c .combine .ensures ∙ rw (c .before .before .basis .ensures)
+
+pub inside-spec : {M : Type 1} → statement M
+inside-spec = tie.close (tie.spec (search needs) (search needs) (search needs) returns)

@@ -1,0 +1,33 @@
+-- `fit::clear_row` meets its contract: the numbers below k are cleared.
+use mathlib.Core.Path.{_≡_, sym, ap, _∙_}
+use Prim.Native.Nat.{_-_}
+use native.Mathlib.Omega.{arith}
+use denote.Ref.{now}
+use lib.ListN.{length}
+use lib.Ieee.{nan}
+use Rattle.meaning.specs.Scalar.{zero64}
+use Rattle.meaning.proofs.Filling.{Filled, empty, filled, full, listed-same}
+use borrow.Author.Needs.{needs}
+use Rattle.fit.proofs.clear_row.Statement.{statement}
+use Rattle.fit.proofs.clear_row.Tie as tie
+
+abbrev Inv-loop : tie.InvT-loop
+Inv-loop t₀ end k₀ t k = Filled (λ j. zero64) nan (length t₀) k t
+
+abbrev μ-loop : tie.MeasureT-loop
+μ-loop t₀ end k₀ t k = length t₀ - k
+
+loop-holds : tie.Need-loop-holds Inv-loop μ-loop
+loop-holds c = empty (search needs)
+
+loop-again : tie.Need-loop-again Inv-loop μ-loop
+loop-again c = filled (c .before .loop .inv) (search needs) (search needs)
+
+returns : tie.Need-returns Inv-loop μ-loop
+returns c = full (c .before .loop .inv) (search needs) ∙ sym (listed-same 0 _ zero64)
+
+pub clear-row-spec : {M : Type 1} → statement M
+clear-row-spec =
+    tie.close
+    (tie.spec Inv-loop μ-loop loop-holds (search needs) (search needs) (search needs) (search needs) loop-again
+    (search needs) returns)

@@ -1,0 +1,30 @@
+-- `fit_partials::knot_at` meets its contract: each case of the definition.
+use borrow.Author.Tests.{lt-ltb, le-ltb}
+use Rattle.fit.specs.Parameters.{knotAt}
+use borrow.Author.Needs.{needs}
+use Rattle.fit_partials.proofs.knot_at.Statement.{statement}
+use Rattle.fit_partials.proofs.knot_at.Tie as tie
+
+returns : tie.Need-returns
+unfolding knotAt
+returns c = rw (lt-ltb _ _ (c .before .if1 .taken)) (c .cst .ensures)
+
+returns-2 : tie.Need-returns-2
+unfolding knotAt
+returns-2 c = rw (le-ltb _ _ (c .before .before .if1 .left), lt-ltb _ _ (c .before .if2 .taken))
+
+returns-3 : tie.Need-returns-3
+unfolding knotAt
+returns-3 c =
+    rw (le-ltb _ _ (c .before .before .before .if1 .left), le-ltb _ _ (c .before .before .if2 .left), lt-ltb _ _ (c .before .if3 .taken)) (c .cst2 .ensures)
+
+returns-4 : tie.Need-returns-4
+unfolding knotAt
+returns-4 c =
+    rw (le-ltb _ _ (c .before .before .before .if1 .left), le-ltb _ _ (c .before .before .if2 .left), le-ltb _ _ (c .before .if3 .left)) (c .cst3 .ensures)
+
+pub knot-at-spec : {M : Type 1} → statement M
+knot-at-spec =
+    tie.close
+    (tie.spec (search needs) returns (search needs) (search needs) (search needs) (search needs) returns-2
+    (search needs) (search needs) returns-3 (search needs) returns-4)

@@ -1,0 +1,5 @@
+-- Curves through points, with partials.
+pub mod Variables
+pub mod Stored
+pub mod Through
+pub mod View

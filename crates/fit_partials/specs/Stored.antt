@@ -1,0 +1,56 @@
+-- Inner: what the filling of the system leaves in the two lent slices, and the numbers that lie in a cell as they are.
+use mathlib.Core.Path.{_≡_}
+use mathlib.Core.List.{List}
+use Prim.Native.Nat.{ℕ, _+_, _*_, _≤_, _<_}
+use lib.ListN.{length, getD, drop}
+use lib.Ieee.{Float, nan}
+use Rattle.meaning.specs.Scalar.{zero64}
+use Rattle.meaning.specs.Table.{at1}
+use Rattle.partials.specs.declared.Dv.{Dv}
+use Rattle.partials.specs.Dual.{dual}
+use Rattle.span.specs.Halving.{halvedOf}
+use Rattle.plane.specs.Vector.{Vector}
+use Rattle.cells.specs.Cell.{cellAt}
+use Rattle.fit.specs.System.{rowOf, fitRow, fitRows}
+use Rattle.fit_partials.specs.Variables.{variablesOf}
+
+-- at most c partials, and +0.0 in the places past them
+pub record Tidy (c : ℕ) (d : Dv) : Type 0 where
+  pub few : d .n ≤ c
+  pub zeros : (j : ℕ) → d .n ≤ j → j < length (d .g) → getD (d .g) j nan ≡ zero64
+
+-- n cells from cell `at` on hold f 0, f 1 and so on afterwards; those before hold what they held, and past them nothing is touched
+pub record Laid (c at n : ℕ) (f : ℕ → Dv) (w : List Float) (ns : List ℕ) (w′ : List Float) (ns′ : List ℕ) : Type 0 where
+  pub doubles : length w′ ≡ length w
+  pub bytes : length ns′ ≡ length ns
+  pub done : (k : ℕ) → k < n → cellAt c w′ ns′ (at + k) ≡ f k
+  pub kept : (i : ℕ) → i < at → cellAt c w′ ns′ i ≡ cellAt c w ns i
+  pub past : drop ((at + n) * (c + 1)) w′ ≡ drop ((at + n) * (c + 1)) w
+  pub pastBytes : drop (at + n) ns′ ≡ drop (at + n) ns
+
+-- there is room for n cells from cell `at` on
+pub record Room (c at n : ℕ) (w : List Float) (ns : List ℕ) : Type 0 where
+  pub narrow : c ≤ 27
+  pub few : at + n ≤ 224
+  pub bytes : at + n ≤ length ns
+  pub doubles : (at + n) * (c + 1) ≤ length w
+
+-- the row over the knots ks, whose values are us, that says: the derivative of order d at t is b
+unfoldable pub foundRow : List Dv → List Float → ℕ → Dv → ℕ → Vector Dv → List Dv
+unfolding rowOf
+foundRow ks us m t d b = rowOf dual (halvedOf us m) ks m t d b
+
+-- row r, and all rows, of the system for n points q with the parameters ps
+unfoldable pub foundFitRow : List Dv → List Float → List Dv → List Float → ℕ → ℕ → List Dv
+unfolding fitRow
+foundFitRow ks us ps q n r = fitRow dual (halvedOf us (n + 2)) ks (at1 dual ps) (variablesOf q) n r
+
+unfoldable pub foundFitRows : List Dv → List Float → List Dv → List Float → ℕ → List (List Dv)
+unfolding fitRows
+foundFitRows ks us ps q n = fitRows dual (halvedOf us (n + 2)) ks (at1 dual ps) (variablesOf q) n
+
+-- the knots have such numbers, and so have the parameters of n points
+pub record TidyFit (c n : ℕ) (ks ps : List Dv) (q : List Float) : Type 0 where
+  pub knots : (j : ℕ) → Tidy c (at1 dual ks j)
+  pub parameters : (k : ℕ) → k < n → Tidy c (at1 dual ps k)
+  pub points : length q ≤ c

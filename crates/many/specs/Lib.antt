@@ -1,0 +1,2 @@
+-- Many questions in one call.
+pub mod Many

@@ -1,0 +1,14 @@
+-- `residual::part` meets its contract.
+use borrow.Author.Tests.{lt-ltb, le-ltb}
+use borrow.Author.Needs.{needs}
+use Rattle.residual.proofs.part.Statement.{statement}
+use Rattle.residual.proofs.part.Tie as tie
+
+returns : tie.Need-returns
+returns c = simp (lt-ltb _ _ (c .before .if1 .taken))
+
+returns-2 : tie.Need-returns-2
+returns-2 c = simp (le-ltb _ _ (c .if1 .left))
+
+pub part-spec : {M : Type 1} → statement M
+part-spec = tie.close (tie.spec (search needs) (search needs) returns returns-2)

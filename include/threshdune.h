@@ -15,8 +15,8 @@
  *     1  a slice of coordinates has an odd number of entries
  *     2  there are fewer than 2 points
  *     3  there are 2 or 3 control points
- *     4  there are over 66 control points, or over 64 fit points
- *     5  knots are given with fit points (no function here takes both; the sheet program does)
+ *     4  there are over 66 control points, or over 64 fit points, or over 12 handles of residuals
+ *     5  knots are given with fit points (of residuals; no other function here takes both)
  *     6  the knots are not 4 more than the control points
  *     7  a knot is not finite, or is less than the one before
  *     8  the first four knots are not equal, or the last four
@@ -79,6 +79,16 @@ uint64_t threshdune_evaluate(const double *coords, size_t coords_len, const doub
                              size_t knots_len, double t, uint64_t order, double *out,
                              size_t out_len);
 
+/* The same at many parameters, in one call that checks the curve once. Those of parameter k stand
+ * from out[k * 2 * (order + 1)] on, and its refusal, 0 or 12 or 15, at refusals[k]; where that is
+ * not 0 its place in `out` is as it was. With no parameters nothing is written.
+ * Room: ts_len * 2 * (order + 1) doubles in `out`, ts_len numbers in `refusals`. Refusals of the
+ * whole call: 13, 14 for either slice. */
+uint64_t threshdune_evaluate_many(const double *coords, size_t coords_len, const double *knots,
+                                  size_t knots_len, const double *ts, size_t ts_len,
+                                  uint64_t order, double *out, size_t out_len, uint64_t *refusals,
+                                  size_t refusals_len);
+
 /* The point at t and the unit tangent, which is (1, 0) where the derivative has no direction: where
  * its length, multiplied by itself, is below 1e-24.
  * Room: 4 doubles in `out`. Refusals: 12, 14, 15. */
@@ -105,6 +115,36 @@ uint64_t threshdune_samples(const double *coords, size_t coords_len, const doubl
  * and then at most 30 of Newton's rounds find it. Refusals: 11 for the point too, 15. */
 uint64_t threshdune_closest(const double *coords, size_t coords_len, const double *knots,
                             size_t knots_len, double px, double py, double *t);
+
+/* The same for many points, x and y in turn, in one call that checks the curve once. The parameter
+ * of point k stands at out[k], and its refusal, 0 or 11 or 15, at refusals[k]; where that is not 0
+ * its place in `out` is as it was. With no points nothing is written.
+ * Room: points_len / 2 doubles in `out`, as many numbers in `refusals`. Refusals of the whole call:
+ * 1 where points_len is odd, 14 for either slice. */
+uint64_t threshdune_closest_many(const double *coords, size_t coords_len, const double *knots,
+                                 size_t knots_len, const double *points, size_t points_len,
+                                 double *out, size_t out_len, uint64_t *refusals,
+                                 size_t refusals_len);
+
+/* ---- a point held on a curve */
+
+/* How far the point (px, py) lies from the curve at t, and how that moves with every number. The
+ * curve is that of n handles, x and y in turn, at most 12: through them where `fit` is not 0, else
+ * with them as control points, over `knots` where `given` is not 0, else over uniform ones, and
+ * `knots` is not read then.
+ * residuals: px - C(t).x, py - C(t).y, and how far t lies past the domain, 0 inside it.
+ * rows: for each of the three its c = 2 * n + 3 partials, with respect to the numbers of the
+ * handles in their order, px, py and t.
+ * Room: 3 doubles in `residuals`, 3 * c in `rows`. Work for fit points: (n + 2) * (n + 4) bytes in
+ * `counts`, and (n + 2) * (n + 4) * (c + 1) doubles in `work`; for control points none. Once 1 to
+ * 14 do not apply, that part of both holds zeros afterwards, and the rest is as it was.
+ * Refusals: 1 to 11 by the form, 4 over 12 handles, 11 for the point too, 12, 14 for each of the
+ * four, 15 for a number or a partial that the fit stores or that is answered. */
+uint64_t threshdune_residual(const double *handles, size_t handles_len, uint64_t fit,
+                             uint64_t given, const double *knots, size_t knots_len, double px,
+                             double py, double t, double *work, size_t work_len, uint8_t *counts,
+                             size_t counts_len, double *residuals, size_t residuals_len,
+                             double *rows, size_t rows_len);
 
 #ifdef __cplusplus
 }

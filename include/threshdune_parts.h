@@ -155,6 +155,11 @@ uint64_t threshdune_record_evaluate(uint64_t points, uint64_t knot_count, const 
                                     size_t xs_len, const double *ys, size_t ys_len,
                                     const double *knots, size_t knots_len, double t,
                                     uint64_t order, double *out, size_t out_len);
+uint64_t threshdune_record_evaluate_many(uint64_t points, uint64_t knot_count, const double *xs,
+                                         size_t xs_len, const double *ys, size_t ys_len,
+                                         const double *knots, size_t knots_len, const double *ts,
+                                         size_t ts_len, uint64_t order, double *out,
+                                         size_t out_len, uint64_t *refusals, size_t refusals_len);
 uint64_t threshdune_record_point_tangent(uint64_t points, uint64_t knot_count, const double *xs,
                                          size_t xs_len, const double *ys, size_t ys_len,
                                          const double *knots, size_t knots_len, double t,
@@ -173,6 +178,11 @@ uint64_t threshdune_record_closest(uint64_t points, uint64_t knot_count, const d
                                    size_t xs_len, const double *ys, size_t ys_len,
                                    const double *knots, size_t knots_len, double px, double py,
                                    double *t);
+uint64_t threshdune_record_closest_many(uint64_t points, uint64_t knot_count, const double *xs,
+                                        size_t xs_len, const double *ys, size_t ys_len,
+                                        const double *knots, size_t knots_len,
+                                        const double *marks, size_t marks_len, double *out,
+                                        size_t out_len, uint64_t *refusals, size_t refusals_len);
 
 #ifdef __cplusplus
 }

@@ -1,6 +1,7 @@
 //! A fit: control points and knots from fit points. Ours works in a lent buffer, which it leaves cleared for the next call; the Rust
 //! makes its matrix anew, cleared, each time.
 
+use crate::floor::Floor;
 use crate::ours::threshdune_build_fit;
 use crate::sides::Bench;
 use original::spline::BSpline;
@@ -21,11 +22,12 @@ pub fn time(bench: &mut Bench) {
         let inputs: Vec<Vec<[f64; 2]>> = (0..8).map(|which| wave(n, which)).collect();
         let m = n + 2;
         let work = RefCell::new(vec![0.0; m * (m + 2)]);
-        bench.case(
+        bench.case_over_floor(
             &format!("fit {n}"),
-            &inputs,
+            (&inputs, 1),
             |points| ours(points, &mut work.borrow_mut()),
             |points| theirs(points),
+            |points| Floor::through(points).numbers(),
         );
     }
 }

@@ -7,10 +7,12 @@
 mod closest;
 mod curves;
 mod fits;
+mod floor;
 // the comparison's own declarations, of which a few are timed
 #[allow(dead_code)]
 #[path = "../compare_src/ours.rs"]
 mod ours;
+mod residuals;
 mod root;
 mod sides;
 
@@ -26,6 +28,7 @@ fn main() {
     root::time(&mut bench);
     curves::time(&mut bench);
     fits::time(&mut bench);
+    residuals::time(&mut bench);
     closest::time(&mut bench);
     bench.finish();
 }

@@ -1,6 +1,6 @@
-//! One piece of work done in two ways, ours and the Rust's, timed in turns.
+//! One piece of work done in two ways, ours and the Rust's, or in three, with the floor beside them, timed in turns.
 //!
-//! The machine's speed drifts, so no time stands for itself: a turn times both sides one right after the other, the one that goes
+//! The machine's speed drifts, so no time stands for itself: a turn times all sides one right after the other, the one that goes
 //! first last in the next turn, and what is told is the median of the turns' quotients. Each side goes through the same list of
 //! inputs, since on a single one the processor would learn the branches by heart.
 
@@ -10,6 +10,10 @@ use std::time::Instant;
 const TURNS: usize = 61;
 /// How long a side works in a turn, in nanoseconds: long beside the clock's own steps.
 const TURN: f64 = 2e6;
+
+/// The nanoseconds of a side that goes through the inputs so many times, and its answer to one, in bits.
+type Pass<'a> = dyn Fn(u64) -> f64 + 'a;
+type Answer<'a, I> = dyn Fn(&I) -> Vec<u64> + 'a;
 
 pub struct Bench {
     only: Option<String>,
@@ -38,32 +42,82 @@ impl Bench {
         ours: impl Fn(&I) -> A,
         theirs: impl Fn(&I) -> A,
     ) {
+        let passes: [&Pass; 2] = [&|k| pass(inputs, k, &ours), &|k| pass(inputs, k, &theirs)];
+        let answers: [&Answer<I>; 2] = [&|i| bits(ours(i)), &|i| bits(theirs(i))];
+        self.sides(case, inputs, 1, &passes, &answers);
+    }
+
+    /// The same beside a third side, the floor; an input has so many parts, and the time of one is told.
+    pub fn case_over_floor<I, A: AsRef<[f64]>>(
+        &mut self,
+        case: &str,
+        (inputs, parts): (&[I], usize),
+        ours: impl Fn(&I) -> A,
+        theirs: impl Fn(&I) -> A,
+        floor: impl Fn(&I) -> A,
+    ) {
+        let passes: [&Pass; 3] = [
+            &|k| pass(inputs, k, &ours),
+            &|k| pass(inputs, k, &theirs),
+            &|k| pass(inputs, k, &floor),
+        ];
+        let answers: [&Answer<I>; 3] = [&|i| bits(ours(i)), &|i| bits(theirs(i)), &|i| {
+            bits(floor(i))
+        }];
+        self.sides(case, inputs, parts, &passes, &answers);
+    }
+
+    /// Ours first, then the Rust's, then perhaps the floor.
+    fn sides<I>(
+        &mut self,
+        case: &str,
+        inputs: &[I],
+        parts: usize,
+        passes: &[&Pass],
+        answers: &[&Answer<I>],
+    ) {
         if !self.wanted(case) {
             return;
         }
         for (i, input) in inputs.iter().enumerate() {
-            let (a, b) = (bits(ours(input)), bits(theirs(input)));
-            assert_eq!(a, b, "{case}: the sides differ on input {i}");
+            let wanted = answers[0](input);
+            let same = answers.iter().all(|answer| answer(input) == wanted);
+            assert!(same, "{case}: the sides differ on input {i}");
         }
-        let per = inputs.len() as f64;
         let mut times = 1;
-        while pass(inputs, times, &ours).min(pass(inputs, times, &theirs)) < TURN {
+        let longest = |times: u64| {
+            passes
+                .iter()
+                .map(|pass| pass(times))
+                .fold(f64::MAX, f64::min)
+        };
+        while longest(times) < TURN {
             times *= 2;
         }
+        // the one that goes first in a turn goes last in the next
         let turn = |k: usize| {
-            if k % 2 == 0 {
-                let first = pass(inputs, times, &ours);
-                [first, pass(inputs, times, &theirs)]
-            } else {
-                let first = pass(inputs, times, &theirs);
-                [pass(inputs, times, &ours), first]
+            let mut taken = vec![0.0; passes.len()];
+            for at in 0..passes.len() {
+                let side = if k % 2 == 0 {
+                    at
+                } else {
+                    passes.len() - 1 - at
+                };
+                taken[side] = passes[side](times);
             }
+            taken
         };
-        let turns: Vec<[f64; 2]> = (0..TURNS).map(turn).collect();
-        let quotient = middle(turns.iter().map(|[a, b]| a / b));
-        let [a, b] =
-            [0, 1].map(|side| middle(turns.iter().map(|t| t[side])) / (times as f64 * per));
-        println!("{case:10}  ratio {quotient:6.3}   ours {a:8.1} ns   rust {b:8.1} ns");
+        let turns: Vec<Vec<f64>> = (0..TURNS).map(turn).collect();
+        let per = times as f64 * (inputs.len() * parts) as f64;
+        let ratio = |side: usize| middle(turns.iter().map(|t| t[0] / t[side]));
+        let time = |side: usize| middle(turns.iter().map(|t| t[side])) / per;
+        let (quotient, a, b) = (ratio(1), time(0), time(1));
+        print!("{case:10}  ratio {quotient:6.3}   ours {a:8.1} ns   rust {b:8.1} ns");
+        if passes.len() > 2 {
+            let (over, floor) = (ratio(2), time(2));
+            print!("   over the floor {over:6.3}   floor {floor:8.1} ns");
+        }
+        println!();
         self.told += 1;
     }
 

@@ -13,7 +13,7 @@ use original::access;
 use original::spline::{Curve, P2};
 
 /// For the tally, by number.
-const REFUSED: [&str; 15] = [
+pub const REFUSED: [&str; 15] = [
     "refused  1",
     "refused  2",
     "refused  3",
@@ -97,13 +97,13 @@ pub fn points(coords: &[f64]) -> Vec<[f64; 2]> {
 
 /// A curve that is asked after, with what is known of it beforehand.
 pub struct Asked<'a> {
-    form: Form<'a>,
+    pub form: Form<'a>,
     /// As many as are counted.
     knots: &'a [f64],
-    messy: bool,
+    pub messy: bool,
     /// The rows up to 11.
-    table: Table,
-    check: Option<u64>,
+    pub table: Table,
+    pub check: Option<u64>,
     /// Where none of them applies.
     curve: Option<Curve<f64>>,
 }
@@ -148,23 +148,28 @@ impl<'a> Asked<'a> {
     }
 
     /// Only to be called where no row applies.
-    fn theirs(&self) -> &Curve<f64> {
+    pub fn theirs(&self) -> &Curve<f64> {
         self.curve.as_ref().expect("accepted")
     }
 
-    fn parameter(&self, random: &mut Random) -> (f64, &'static str) {
+    pub fn parameter(&self, random: &mut Random) -> (f64, &'static str) {
         match random.once_in(if self.messy { 4 } else { 48 }) {
             true => (not_finite(random), "t not finite"),
             false => parameter(random, self.knots),
         }
     }
 
-    fn evaluate(&self, random: &mut Random, tally: &mut Tally) {
-        let (t, place) = self.parameter(random);
-        let order = match random.below(if self.messy { 4 } else { 64 }) {
+    /// 0 to 4, or above.
+    pub fn order(&self, random: &mut Random) -> u64 {
+        match random.below(if self.messy { 4 } else { 64 }) {
             0 => above(random, 5),
             _ => random.below(5),
-        };
+        }
+    }
+
+    fn evaluate(&self, random: &mut Random, tally: &mut Tally) {
+        let (t, place) = self.parameter(random);
+        let order = self.order(random);
         let mut room = Room::draw(random, 2 * (order.min(9) as usize + 1), self.messy);
         let refusal = door!(
             &self.form,

@@ -66,19 +66,19 @@ pub fn run(random: &mut Random, rounds: u64) -> Tally {
     tally
 }
 
-struct Search<'a> {
-    form: Form<'a>,
+pub struct Search<'a> {
+    pub form: Form<'a>,
     /// As many as are counted.
     points: Vec<[f64; 2]>,
     knots: &'a [f64],
-    point: [f64; 2],
+    pub point: [f64; 2],
     /// The rows up to 11.
-    table: Table,
-    check: Option<u64>,
+    pub table: Table,
+    pub check: Option<u64>,
 }
 
 impl<'a> Search<'a> {
-    fn of_slices(coords: &'a [f64], knots: &'a [f64], point: [f64; 2]) -> Self {
+    pub fn of_slices(coords: &'a [f64], knots: &'a [f64], point: [f64; 2]) -> Self {
         Search {
             form: Form::Slices { coords, knots },
             points: points(coords),
@@ -89,7 +89,7 @@ impl<'a> Search<'a> {
         }
     }
 
-    fn of_record(record: &'a Record, point: [f64; 2]) -> Self {
+    pub fn of_record(record: &'a Record, point: [f64; 2]) -> Self {
         let (points, knots) = (record.counted_points(), record.counted_knots());
         let numbers = [points.concat(), point.to_vec()].concat();
         Search {
@@ -128,7 +128,7 @@ impl<'a> Search<'a> {
     }
 
     /// Nothing where a sample's distance is not finite or the parameter is a NaN.
-    fn theirs(&self) -> Option<Vec<Vec<f64>>> {
+    pub fn theirs(&self) -> Option<Vec<Vec<f64>>> {
         let (curve, p) = (curve(&self.points, self.knots), self.point);
         let distance = |t: f64| {
             let c = curve.eval(&t, 0)[0].val();
@@ -237,15 +237,15 @@ impl Unlike {
 }
 
 /// A curve that is searched, and where a near tie is to be had on it.
-struct Drawn {
-    layout: Layout,
+pub struct Drawn {
+    pub layout: Layout,
     kind: &'static str,
     /// A point that lies equally far from two or more points of the curve.
     middle: [f64; 2],
 }
 
 impl Drawn {
-    fn draw(random: &mut Random) -> Self {
+    pub fn draw(random: &mut Random) -> Self {
         let n = match random.below(32) {
             0..24 => random.within(4, 8),
             24..31 => random.within(4, 20),
@@ -268,7 +268,7 @@ impl Drawn {
     }
 
     /// The point searched for, and where it lies.
-    fn point(&self, random: &mut Random) -> ([f64; 2], &'static str) {
+    pub fn point(&self, random: &mut Random) -> ([f64; 2], &'static str) {
         let Layout { coords, knots, .. } = &self.layout;
         let accepted = Table::of_curve(coords, Some(knots)).first == 0;
         let on = |t: f64| match accepted {

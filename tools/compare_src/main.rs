@@ -15,13 +15,16 @@ mod hull;
 mod judge;
 mod layouts;
 mod lent;
+mod marks;
 mod numbers;
 mod ours;
 mod partials;
 mod plane;
 mod plane_partials;
+mod points;
 mod random;
 mod records;
+mod residuals;
 mod roots;
 mod table;
 mod tally;
@@ -80,14 +83,29 @@ const SECTIONS: &[Section] = &[
         run: records::run,
     },
     Section {
+        name: "many points",
+        rounds: 100_000,
+        run: points::run,
+    },
+    Section {
         name: "fits",
         rounds: 600_000,
         run: fits::run,
     },
     Section {
+        name: "residuals",
+        rounds: 600_000,
+        run: residuals::run,
+    },
+    Section {
         name: "closest",
         rounds: 320_000,
         run: closest::run,
+    },
+    Section {
+        name: "many closest",
+        rounds: 40_000,
+        run: marks::run,
     },
     Section {
         name: "hull",

@@ -159,6 +159,25 @@ unsafe extern "C" {
 
 // Curves.
 unsafe extern "C" {
+    pub fn threshdune_residual(
+        handles: *const f64,
+        handles_len: usize,
+        fit: u64,
+        given: u64,
+        knots: *const f64,
+        knots_len: usize,
+        px: f64,
+        py: f64,
+        t: f64,
+        work: *mut f64,
+        work_len: usize,
+        counts: *mut u8,
+        counts_len: usize,
+        residuals: *mut f64,
+        residuals_len: usize,
+        rows: *mut f64,
+        rows_len: usize,
+    ) -> u64;
     pub fn threshdune_closest(
         coords: *const f64,
         coords_len: usize,
@@ -167,6 +186,18 @@ unsafe extern "C" {
         px: f64,
         py: f64,
         t: *mut f64,
+    ) -> u64;
+    pub fn threshdune_closest_many(
+        coords: *const f64,
+        coords_len: usize,
+        knots: *const f64,
+        knots_len: usize,
+        points: *const f64,
+        points_len: usize,
+        out: *mut f64,
+        out_len: usize,
+        refusals: *mut u64,
+        refusals_len: usize,
     ) -> u64;
     pub fn threshdune_build_fit(
         coords: *const f64,
@@ -198,6 +229,19 @@ unsafe extern "C" {
         order: u64,
         out: *mut f64,
         out_len: usize,
+    ) -> u64;
+    pub fn threshdune_evaluate_many(
+        coords: *const f64,
+        coords_len: usize,
+        knots: *const f64,
+        knots_len: usize,
+        ts: *const f64,
+        ts_len: usize,
+        order: u64,
+        out: *mut f64,
+        out_len: usize,
+        refusals: *mut u64,
+        refusals_len: usize,
     ) -> u64;
     pub fn threshdune_point_tangent(
         coords: *const f64,
@@ -256,9 +300,13 @@ macro_rules! records {
 
 records! {
     threshdune_record_evaluate, (t: f64, order: u64, out: *mut f64, out_len: usize);
+    threshdune_record_evaluate_many, (ts: *const f64, ts_len: usize, order: u64, out: *mut f64, out_len: usize,
+        refusals: *mut u64, refusals_len: usize);
     threshdune_record_point_tangent, (t: f64, out: *mut f64, out_len: usize);
     threshdune_record_length, (length: *mut f64);
     threshdune_record_domain, (from: *mut f64, to: *mut f64);
     threshdune_record_closest, (px: f64, py: f64, t: *mut f64);
+    threshdune_record_closest_many, (marks: *const f64, marks_len: usize, out: *mut f64, out_len: usize,
+        refusals: *mut u64, refusals_len: usize);
     threshdune_record_samples, (per_span: u64, out: *mut f64, out_len: usize, count: *mut u64);
 }

@@ -36,7 +36,7 @@ pub struct Record {
 }
 
 impl Record {
-    fn draw(random: &mut Random, messy: bool) -> Self {
+    pub fn draw(random: &mut Random, messy: bool) -> Self {
         let mut layout = Layout::draw(random);
         let damages = match random.below(4) {
             _ if messy => 1 + random.below(3),

@@ -8,6 +8,9 @@ use original::spline::check;
 const MOST: u64 = 66;
 const MOST_FIT: u64 = 64;
 
+/// The most handles of the residuals.
+pub const MOST_HELD: u64 = 12;
+
 /// An outcome is not finite.
 pub const NOT_FINITE: u64 = 15;
 
@@ -71,18 +74,46 @@ impl Table {
             .row(11, !coords.iter().all(|x| x.is_finite()))
     }
 
+    /// The rows 1 to 12 for the residuals of a point at t, on a curve of either form.
+    pub fn of_residuals(
+        fit: bool,
+        coords: &[f64],
+        knots: Option<&[f64]>,
+        point: [f64; 2],
+        t: f64,
+    ) -> Self {
+        let n = coords.len() as u64 / 2;
+        let numbers = [coords, &point].concat();
+        let counts = Table::default()
+            .row(1, coords.len() % 2 == 1)
+            .row(2, n < 2)
+            .row(3, !fit && (n == 2 || n == 3))
+            .row(4, n > MOST_HELD);
+        let checked = match fit {
+            true => counts.row(5, knots.is_some()),
+            false => counts.judged_knots(n, knots.map(|knots| (knots.len() as u64, knots))),
+        };
+        checked
+            .row(11, !numbers.iter().all(|x| x.is_finite()))
+            .row(12, !t.is_finite())
+    }
+
     fn rest(self, n: u64, knots: Option<(u64, &[f64])>, coords: &[f64]) -> Self {
         let counts = self.row(2, n < 2).row(3, n == 2 || n == 3).row(4, n > MOST);
-        let checked = match knots {
-            None => counts,
-            Some((count, knots)) => counts
-                .row(6, u128::from(count) != u128::from(n) + 4)
-                .row(7, !rising(knots))
-                .row(8, !clamped(knots))
-                .row(9, !(knots.first() < knots.last()))
-                .row(10, crowded(knots, n)),
-        };
+        let checked = counts.judged_knots(n, knots);
         checked.row(11, !coords.iter().all(|x| x.is_finite()))
+    }
+
+    /// The rows 6 to 10, where there are knots.
+    fn judged_knots(self, n: u64, knots: Option<(u64, &[f64])>) -> Self {
+        let Some((count, knots)) = knots else {
+            return self;
+        };
+        self.row(6, u128::from(count) != u128::from(n) + 4)
+            .row(7, !rising(knots))
+            .row(8, !clamped(knots))
+            .row(9, !(knots.first() < knots.last()))
+            .row(10, crowded(knots, n))
     }
 }
 

@@ -1,2 +1,2 @@
--- The structs of the code. The definitions are those of the crate `basis`, at `dual`.
+-- The struct of the code. The definitions are those of the crate `basis`, at `dual`.
 pub mod View

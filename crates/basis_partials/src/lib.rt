@@ -3,33 +3,12 @@
 ghost use mathlib.Core.Path.{_≡_};
 ghost use Prim.Native.Nat.{_≤_};
 ghost use Rattle.partials.specs.Dual.{dual};
-ghost use Rattle.basis.specs.Triangle.{cellOf, columnOf, triangleOf};
+ghost use Rattle.basis.specs.Triangle.{columnOf, triangleOf};
 ghost use Rattle.basis.specs.Derivatives.{firstPut, midPut, lastPut, firstCoef, midCoefs, lastCoef, orderOf, startCoefs};
 ghost use Rattle.basis.specs.Basis.{valuesOf, functionOf, functionsOf, scaledRow, scaled, derivativesOf};
-ghost use Rattle.basis_partials.specs.View.{viewCell, view};
+ghost use Rattle.basis_partials.specs.View.{view};
+use basis_straight::cell_of;
 use partials::Dv;
-
-// What a turn of the table's inner loop makes: a knot difference, a basis value, and what the next turn adds to its own.
-struct Cell {
-    gap: Dv,
-    value: Dv,
-    saved: Dv,
-}
-
-// The inner loop's statements, on the values that they read.
-fn cell_of(right: Dv, left: Dv, before: Dv, saved: Dv) -> Cell
-    ensures { λ q. ⌜ viewCell q ≡ cellOf dual right left before saved ⌝ }
-{
-    let gap = right.add(left);
-    let temp = before.div(gap);
-    let value = saved.add(right.mul(temp));
-    let next = left.mul(temp);
-    Cell {
-        gap,
-        value,
-        saved: next,
-    }
-}
 
 // The table with column j: the inner loop, and the entry on the diagonal.
 fn column_of(left: [Dv; 4], right: [Dv; 4], j: usize, table: [[Dv; 4]; 4]) -> [[Dv; 4]; 4]

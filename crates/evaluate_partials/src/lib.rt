@@ -34,8 +34,8 @@ fn combine(xs: [Dv; 4], ys: [Dv; 4], row: [Dv; 4]) -> P2d
 pub fn inside(w: [Dv; 6], xs: [Dv; 4], ys: [Dv; 4], t: Dv) -> P2d
     ensures { λ r. ⌜ viewD r ≡ onWindow dual w xs ys t 0 0 ⌝ }
 {
-    let ders = basis_partials::basis(w, t, 0);
-    combine(xs, ys, ders[0])
+    let row = basis_straight::values(w, t);
+    combine(xs, ys, row)
 }
 
 // The point at t past the end e of the domain, straight on along the tangent at e; w, xs and ys are those of the span of e.

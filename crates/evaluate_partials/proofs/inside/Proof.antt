@@ -7,7 +7,7 @@ use Rattle.evaluate_partials.proofs.inside.Tie as tie
 
 returns : tie.Need-returns
 unfolding onWindow
-returns c = c .combine .ensures ∙ rw (c .before .before .basis .ensures)
+returns c = c .combine .ensures ∙ rw (c .before .values .ensures)
 
 pub inside-spec : {M : Type 1} → statement M
-inside-spec = tie.close (tie.spec (search needs) (search needs) (search needs) returns)
+inside-spec = tie.close (tie.spec (search needs) (search needs) returns)

@@ -1,7 +1,7 @@
--- `basis_partials::cell_of` meets its contract.
+-- `basis_straight::cell_of` meets its contract.
 use borrow.Author.Needs.{needs}
-use Rattle.basis_partials.proofs.cell_of.Statement.{statement}
-use Rattle.basis_partials.proofs.cell_of.Tie as tie
+use Rattle.basis_straight.proofs.cell_of.Statement.{statement}
+use Rattle.basis_straight.proofs.cell_of.Tie as tie
 
 returns : tie.Need-returns
 returns c = rw (c .mul2 .ensures, c .before .add2 .ensures, c .before .before .mul .ensures, c .before .before .before .div .ensures, c .before .before .before .before .add .ensures)

@@ -1,0 +1,2 @@
+-- The values and the second derivatives of the basis without its table.
+pub mod Written

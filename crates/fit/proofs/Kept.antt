@@ -169,16 +169,22 @@ module _ {A : Type 0} (o : Ops A) (Q P : A → Type 0) (k : Kept o Q P) where
       )) 1 (n + 1 - 1) _ (h, ofBits-fits binary64 0x4008_0000_0000_0000) .0
 
   module _ (u : List A) (i : ℕ) (t : A) (known : (j : ℕ) → Q (at1 o u j)) (at : Q t) where
-    basis-table : (nd : ℕ) → InTable (basisOf o u i t nd)
-    unfolding basisOf derivativesOf functionsOf valuesOf
-    basis-table nd =
+    derivatives-table : (nd : ℕ) → InTable (derivativesOf o u i t nd)
+    unfolding derivativesOf functionsOf valuesOf
+    derivatives-table nd =
         let n = min nd 3 in
         let ndu = triangleOf o u i t in
         let tri = triangle-table u i t known at in
         let values : InTable (valuesOf o ndu) =
         turns-keep InTable _ (λ j d h. put-table d 0 j _ (tri .row j .read 3) h) 0 4 (noOrders o) (zeros-table 5) in
-        chosen InTable (leb 3 i && leb i 65) (derivativesOf o u i t nd) (noOrders o)
-        (scaled-table n _ (turns-keep InTable (functionOf o ndu n) (λ r d h. function-table ndu tri n r d h) 0 4 (valuesOf o ndu) values)) (zeros-table 5)
+        scaled-table n _ (turns-keep InTable (functionOf o ndu n) (λ r d h. function-table ndu tri n r d h) 0 4 (valuesOf o ndu) values)
+
+    pub derivatives-keep : (nd r c : ℕ) → P (at2 o (derivativesOf o u i t nd) r c)
+    derivatives-keep nd r c = derivatives-table nd .row r .read c
+
+    basis-table : (nd : ℕ) → InTable (basisOf o u i t nd)
+    unfolding basisOf
+    basis-table nd = chosen InTable (leb 3 i && leb i 65) (derivativesOf o u i t nd) (noOrders o) (derivatives-table nd) (zeros-table 5)
 
     -- every number of the basis
     pub basis-keeps : (nd r c : ℕ) → P (at2 o (basisOf o u i t nd) r c)

@@ -5,6 +5,7 @@ pub mod Plus
 pub mod Rising
 pub mod Rows
 pub mod Judged
+pub mod Spread
 pub mod Six
 pub mod Through
 pub mod Asked

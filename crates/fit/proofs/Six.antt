@@ -4,8 +4,8 @@ use mathlib.Core.Bool.{Bool, true, false, not, _&&_, cond, and-false}
 use mathlib.Core.List.{List, [], _∷_}
 use Prim.Native.Nat.{ℕ, zero, suc, _+_, _-_, _≤_, _<_}
 use native.Mathlib.Omega.{arith}
-use borrow.Author.Tests.{ltb-true, ltb-false, eqb-true, eqb-false, lt-ltb, le-ltb, eq-eqb, ne-eqb, le-leb, lt-leb}
-use lib.Dec.{ltb, leb, eqb}
+use borrow.Author.Tests.{eqb-true, eqb-false, ne-eqb}
+use lib.Dec.{eqb}
 use lib.ListN.{length, getD, set, replicate, length-set, length-replicate, getD-replicate}
 use lib.Seq.{ext-getD, getD-set-same, getD-set-other}
 use lib.Ieee.{Float, nan, ofBits}
@@ -22,6 +22,7 @@ use Rattle.outcome.specs.Outcome.{someWild}
 use Rattle.fit.specs.System.{spread, withSides}
 use Rattle.fit.specs.Stored.{fourPut, sidesPut, Stored}
 use Rattle.fit.proofs.Judged.{tame-list}
+use Rattle.fit.proofs.Spread.{column-is, elsewhere, sides-are}
 
 -- ---- a list by its entries
 
@@ -64,46 +65,36 @@ module _ (four : List Float) (a m : ℕ) (b : Vector Float) (high : a + 3 < m) w
   abbrev row : ℕ → Float
   row = withSides plain m (spread plain four (a + 3)) b
 
-  -- column a + j
-  column-is : (k j : ℕ) → j ≤ 3 → k ≡ a + j → row k ≡ at1 plain four j
-  unfolding withSides spread
-  column-is k j h e =
-      rw (lt-ltb k m (omega arith), le-leb (a + 3) (k + 3) (omega arith), le-leb k (a + 3) (omega arith)) (ap (at1 plain four) (omega arith))
+  -- what stands in its columns
+  column : (k j : ℕ) → j ≤ 3 → k ≡ a + j → row k ≡ at1 plain four j
+  column = column-is plain four a m b high
 
-  elsewhere : (k : ℕ) → k < m → ((j : ℕ) → j ≤ 3 → k ≡ a + j → ⊥) → row k ≡ zero64
-  unfolding withSides spread
-  elsewhere k h other =
-      by-two (ltb k a)
-      (λ t. let l = ltb-true k a t in rw (lt-ltb k m h, lt-leb (a + 3) (k + 3) (omega arith)) refl)
-      (λ t.
-      let l = ltb-false k a t in
-      let above : a + 3 < k = by-two (ltb (a + 3) k) (ltb-true (a + 3) k) (λ u. absurd (other (k - a) (omega (arith, ltb-false (a + 3) k u)) (omega arith))) in
-      rw (lt-ltb k m h, le-leb (a + 3) (k + 3) (omega arith), lt-leb k (a + 3) above) refl)
+  nowhere : (k : ℕ) → k < m → ((j : ℕ) → j ≤ 3 → k ≡ a + j → ⊥) → row k ≡ zero64
+  nowhere = elsewhere plain four a m b high
 
-  sides-are : (k : ℕ) → m ≤ k → row k ≡ cond (eqb k m) (b .x) (b .y)
-  unfolding withSides
-  sides-are k h = rw (le-ltb k m h) refl
+  sides : (k : ℕ) → m ≤ k → row k ≡ cond (eqb k m) (b .x) (b .y)
+  sides = sides-are plain four a m b high
 
   -- where k is none of the six, and where it is one
   same-number : (k : ℕ) → k < m + 2 → numbers k ≡ row k
   same-number k h =
-      by-two (eqb k (m + 1)) (λ t. rw t (sym (sides-are k (omega (arith, eqb-true k (m + 1) t)) ∙ rw (ne-eqb k m (omega (arith, eqb-true k (m + 1) t))) refl)))
+      by-two (eqb k (m + 1)) (λ t. rw t (sym (sides k (omega (arith, eqb-true k (m + 1) t)) ∙ rw (ne-eqb k m (omega (arith, eqb-true k (m + 1) t))) refl)))
       (λ t.
-      rw t (by-two (eqb k m) (λ u. rw u (sym (sides-are k (omega (arith, eqb-true k m u)) ∙ rw u refl)))
+      rw t (by-two (eqb k m) (λ u. rw u (sym (sides k (omega (arith, eqb-true k m u)) ∙ rw u refl)))
       (λ u.
       let inside : k < m = omega (arith, eqb-false k (m + 1) t, eqb-false k m u) in
       rw u (columns k inside))))
     where
       columns : (k : ℕ) → k < m → but (a + 3) (at1 plain four 3) (but (a + 2) (at1 plain four 2) (but (a + 1) (at1 plain four 1) (but (a + 0) (at1 plain four 0) (λ j. zero64)))) k ≡ row k
       columns k h =
-          by-two (eqb k (a + 3)) (λ t. rw t (sym (column-is k 3 (omega arith) (eqb-true k (a + 3) t))))
+          by-two (eqb k (a + 3)) (λ t. rw t (sym (column k 3 (omega arith) (eqb-true k (a + 3) t))))
           (λ t3.
-          rw t3 (by-two (eqb k (a + 2)) (λ t. rw t (sym (column-is k 2 (omega arith) (eqb-true k (a + 2) t))))
+          rw t3 (by-two (eqb k (a + 2)) (λ t. rw t (sym (column k 2 (omega arith) (eqb-true k (a + 2) t))))
           (λ t2.
-          rw t2 (by-two (eqb k (a + 1)) (λ t. rw t (sym (column-is k 1 (omega arith) (eqb-true k (a + 1) t))))
+          rw t2 (by-two (eqb k (a + 1)) (λ t. rw t (sym (column k 1 (omega arith) (eqb-true k (a + 1) t))))
           (λ t1.
-          rw t1 (by-two (eqb k (a + 0)) (λ t. rw t (sym (column-is k 0 (omega arith) (eqb-true k (a + 0) t))))
-          (λ t0. rw t0 (sym (elsewhere k h (λ j l e. omega (arith, eqb-false k (a + 3) t3, eqb-false k (a + 2) t2, eqb-false k (a + 1) t1, eqb-false k (a + 0) t0)))))))))))
+          rw t1 (by-two (eqb k (a + 0)) (λ t. rw t (sym (column k 0 (omega arith) (eqb-true k (a + 0) t))))
+          (λ t0. rw t0 (sym (nowhere k h (λ j l e. omega (arith, eqb-false k (a + 3) t3, eqb-false k (a + 2) t2, eqb-false k (a + 1) t1, eqb-false k (a + 0) t0)))))))))))
 
   -- the row that is put together is the system's
   pub six-row : sidesPut m b (fourPut four a (replicate (m + 2) zero64)) ≡ listed 0 (m + 2) row

@@ -1,8 +1,9 @@
 -- Cells that are filled one after the other: none yet, one, some and then more, and the rows that they make up. Assumes nothing.
 use mathlib.Core.Path.{_≡_, refl, sym, ap, _∙_, subst}
+use mathlib.Core.Bool.{Bool, true, _&&_, and-true, and-assoc}
 use mathlib.Core.List.{List, [], _∷_, _++_}
 use Prim.Native.Nat.{ℕ, zero, suc, _+_, _-_, _*_, _≤_, _<_, min}
-use native.Mathlib.Nat.{mul-le-mul-right, add-mul, one-mul, zero-mul, suc-mul, add-comm, add-assoc, zero-add}
+use native.Mathlib.Nat.{mul-le-mul-right, add-mul, one-mul, zero-mul, suc-mul, add-comm, add-assoc, zero-add, add-zero, add-suc}
 use native.Mathlib.Numerals.{add-one}
 use native.Mathlib.Omega.{arith}
 use borrow.Author.Tests.{ltb-true, ltb-false}
@@ -11,17 +12,27 @@ use lib.ListN.{length, getD, set, take, drop, length-append}
 use lib.Seq.{paste, ext-getD, drop-at, drop-drop, length-paste-head}
 use lib.Ieee.{Float}
 use Rattle.meaning.specs.Table.{at1}
-use Rattle.meaning.specs.Search.{listed}
+use Rattle.meaning.specs.Scalar.{zero64}
+use Rattle.meaning.specs.Search.{every, listed}
 use Rattle.meaning.proofs.Tests.{by-two}
+use Rattle.meaning.proofs.Every.{every-none, every-same, all}
 use Rattle.meaning.proofs.Filling.{length-listed, nth-listed}
 use Rattle.partials.specs.declared.Dv.{Dv}
-use Rattle.partials.specs.Dual.{dual}
+use Rattle.partials.specs.Dual.{cstDv, fineDv, dual}
 use Rattle.solve.specs.Rows.{flat, rowsOf, Shaped}
 use Rattle.solve.proofs.Flat.{rows-of-flat, read-cell}
 use Rattle.cells.specs.Cell.{cellAt, doublesOf, doublesWith, countsWith}
 use Rattle.cells.specs.Normal.{Normal}
 use Rattle.cells.proofs.Cells.{There, there-is, doubles-long, with-long, counts-long, with-same, with-other}
-use Rattle.fit_partials.specs.Stored.{Laid, Room}
+use Rattle.fit_partials.specs.Stored.{Laid, Stored, Room}
+use Rattle.fit_partials.proofs.Tidy.{zero-fine}
+
+-- a test of n indices and then of j more
+every-join : (n j : ℕ) (p : ℕ → Bool) → every (n + j) p ≡ (every n p && every j (λ i. p (n + i)))
+unfolding every
+every-join n zero p = ap (λ (k : ℕ). every k p) (add-zero n) ∙ sym (and-true (every n p))
+every-join n (suc j) p =
+    ap (λ (k : ℕ). every k p) (add-suc n j) ∙ ap (λ (b : Bool). b && p (n + j)) (every-join n j p) ∙ and-assoc (every n p) (every j (λ i. p (n + i))) (p (n + j))
 
 -- ---- past a cell that is written nothing is touched
 
@@ -125,6 +136,28 @@ module _ (c : ℕ) where
       → Laid c at n f w ns w′ ns′ → Laid c at n g w ns w′ ns′
   laid-same at n f g e a =
       record { doubles = a .doubles; bytes = a .bytes; done = λ k h. a .done k h ∙ e k h; kept = a .kept; past = a .past; pastBytes = a .pastBytes }
+
+  -- ---- with the verdict on them
+
+  pub stored-none : (at : ℕ) (f : ℕ → Dv) (w : List Float) (ns : List ℕ) → Stored c at 0 f w ns w ns true
+  stored-none at f w ns = record { laid = laid-none at f w ns; judged = every-none _ }
+
+  pub stored-join : (at n j : ℕ) (f g : ℕ → Dv) {w w₁ w₂ : List Float} {ns ns₁ ns₂ : List ℕ} {p q fine : Bool} → Stored c at n f w ns w₁ ns₁ p
+      → Stored c (at + n) j g w₁ ns₁ w₂ ns₂ q → ((k : ℕ) → k < j → g k ≡ f (n + k)) → fine ≡ (p && q) → Stored c at (n + j) f w ns w₂ ns₂ fine
+  stored-join at n j f g a b e v = record {
+    laid = laid-join at n j f g (a .laid) (b .laid) e;
+    judged = v ∙ (λ t. a .judged t && (b .judged ∙ every-same j _ _ (λ k h. ap fineDv (e k h))) t) ∙ sym (every-join n j (λ k. fineDv (f k)));
+  }
+
+  -- the same numbers otherwise
+  pub stored-as : (at n : ℕ) (f g : ℕ → Dv) {w w′ : List Float} {ns ns′ : List ℕ} {fine : Bool} → ((k : ℕ) → k < n → f k ≡ g k)
+      → Stored c at n f w ns w′ ns′ fine → Stored c at n g w ns w′ ns′ fine
+  stored-as at n f g e a = record { laid = laid-same at n f g e (a .laid); judged = a .judged ∙ every-same n _ _ (λ k h. ap fineDv (e k h)) }
+
+  -- zeros are finite, and stand where the row has them
+  pub blank-stored : (at n : ℕ) (f : ℕ → Dv) {w w′ : List Float} {ns ns′ : List ℕ} → Laid c at n (λ j. cstDv zero64) w ns w′ ns′
+      → ((k : ℕ) → k < n → f k ≡ cstDv zero64) → Stored c at n f w ns w′ ns′ true
+  blank-stored at n f a e = record { laid = laid-same at n _ f (λ k h. sym (e k h)) a; judged = sym (all n _ (λ k h. ap fineDv (e k h) ∙ zero-fine)) }
 
   -- no row yet
   pub laid-start : (s : ℕ) (f : ℕ → Dv) (w : List Float) (ns : List ℕ) → Laid c 0 (0 * s) f w ns w ns

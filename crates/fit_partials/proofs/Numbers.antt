@@ -1,10 +1,10 @@
 -- The numbers of a fit have no more partials than there are numbers of handles: the variables, the parameters, the knots, and the rows. Assumes nothing.
-use mathlib.Core.Path.{_≡_, refl, sym, subst}
+use mathlib.Core.Path.{_≡_, refl, sym, subst, _∙_}
 use mathlib.Core.Bool.{Bool, true, false, cond}
-use mathlib.Core.List.{List}
+use mathlib.Core.List.{List, []}
 use Prim.Native.Nat.{ℕ, zero, suc, _+_, _-_, _*_, _≤_, _<_}
 use native.Mathlib.Omega.{arith}
-use borrow.Author.Tests.{ltb-true}
+use borrow.Author.Tests.{ltb-true, le-ltb, ne-eqb}
 use lib.Dec.{ltb, eqb}
 use lib.ListN.{length, getD}
 use lib.Ieee.{Float}
@@ -15,12 +15,11 @@ use Rattle.meaning.proofs.Filling.{Filled}
 use Rattle.partials.specs.declared.Dv.{Dv}
 use Rattle.partials.specs.Dual.{varDv, dual}
 use Rattle.solve.proofs.Lists.{turns-keep}
-use Rattle.plane.specs.Vector.{Vector}
+use Rattle.basis.specs.Basis.{derivativesOf, window}
 use Rattle.fit.specs.Parameters.{stepAt, sumOf, parameterAt, knotAt, fitParameter}
-use Rattle.fit.specs.System.{withSides, rowAt}
-use Rattle.fit.proofs.Kept.{row-keeps}
+use Rattle.fit.proofs.Kept.{derivatives-keep}
 use Rattle.fit_partials.specs.Variables.{variablesOf}
-use Rattle.fit_partials.specs.Stored.{Tidy, TidyFit}
+use Rattle.fit_partials.specs.Stored.{Tidy, ReadyFit}
 use Rattle.fit_partials.proofs.Tidy.{cst-tidy, var-tidy, root-tidy, off-tidy, tidy-kept}
 
 -- a choice, and one whose first case is known where it is taken
@@ -35,12 +34,20 @@ listed-keeps P z a (suc d) f p h zero = h a (omega arith)
 listed-keeps P z a (suc d) f p h (suc i) = listed-keeps P z (suc a) d f p (λ j l. h j (omega arith)) i
 
 module _ (c : ℕ) where
-  -- ---- a row
-  pub row-tidy : (sp : Float → ℕ) (ks : List Dv) (m : ℕ) (t : Dv) (d : ℕ) (b : Vector Dv) → ((j : ℕ) → Tidy c (at1 dual ks j)) → Tidy c t → Tidy c (b .x)
-      → Tidy c (b .y) → (k : ℕ) → Tidy c (withSides dual m (rowAt dual sp ks t d) b k)
-  unfolding withSides
-  row-tidy sp ks m t d b hk ht hx hy k =
-      chosen (Tidy c) (ltb k m) _ _ (λ e. row-keeps dual (Tidy c) (Tidy c) (tidy-kept c) sp ks t hk ht d k) (chosen (Tidy c) (eqb k m) _ _ (λ e. hx) hy)
+  -- ---- the six knots of a span, and a row of the basis over them
+  pub window-tidy : (ks : List Dv) (i : ℕ) → ((j : ℕ) → Tidy c (at1 dual ks j)) → (j : ℕ) → Tidy c (at1 dual (window dual ks i) j)
+  window-tidy ks i h zero = h _
+  window-tidy ks i h (suc zero) = h _
+  window-tidy ks i h (suc (suc zero)) = h _
+  window-tidy ks i h (suc (suc (suc zero))) = h _
+  window-tidy ks i h (suc (suc (suc (suc zero)))) = h _
+  window-tidy ks i h (suc (suc (suc (suc (suc zero))))) = h _
+  window-tidy ks i h (suc (suc (suc (suc (suc (suc j)))))) = off-tidy c
+
+  pub four-tidy : (six : List Dv) {four : List Dv} (t : Dv) (d : ℕ) → ((j : ℕ) → Tidy c (at1 dual six j)) → Tidy c t
+      → four ≡ getD (derivativesOf dual six 2 t d) d [] → (k : ℕ) → Tidy c (at1 dual four k)
+  four-tidy six t d hs ht e k =
+      subst (λ (l : List Dv). Tidy c (at1 dual l k)) (sym e) (derivatives-keep dual (Tidy c) (Tidy c) (tidy-kept c) six 2 t hs ht d d k)
 
   -- ---- the parameters and the knots
   module _ (q : List Float) (few : length q ≤ c) where
@@ -70,10 +77,10 @@ module _ (c : ℕ) where
         (chosen (Tidy c) (ltb k (n - 1)) _ _ (λ e. tidy-kept c .over _ _ (sum-tidy k) (sum-tidy (n - 1))) (cst-tidy c one64))
 
     -- what the arrays of the code have
-    pub fit-tidy : (n : ℕ) (ks ps : List Dv) → 1 ≤ n → Filled (fitParameter dual (variablesOf q) n) (dual .off) 12 n ps
+    pub fit-tidy : (n : ℕ) (ks ps : List Dv) → 2 ≤ n → Filled (fitParameter dual (variablesOf q) n) (dual .off) 12 n ps
         → ks ≡ listed 0 18 (knotAt dual (at1 dual ps) n)
-        → TidyFit c n ks ps q
-    unfolding knotAt
+        → ReadyFit c n ks ps q
+    unfolding knotAt parameterAt
     fit-tidy n ks ps some hp hk =
         let ready : (k : ℕ) → k < n → Tidy c (at1 dual ps k) = λ k l. subst (Tidy c) (sym (hp .same k l)) (parameter-tidy n k) in
         record {
@@ -84,5 +91,7 @@ module _ (c : ℕ) where
               (chosen (Tidy c) (ltb j (n + 2)) _ _ (λ e. let b : j < n + 2 = ltb-true j (n + 2) e in ready (j - 3) (omega arith))
               (chosen (Tidy c) (ltb j (n + 6)) _ _ (λ e. cst-tidy c one64) (cst-tidy c zero64)))) i);
           parameters = ready;
+          first = hp .same 0 (omega arith);
+          last = hp .same (n - 1) (omega arith) ∙ rw (ne-eqb (n - 1) 0 (omega arith), le-ltb (n - 1) (n - 1) (omega arith));
           points = few;
         }

@@ -44,6 +44,7 @@ use Rattle.value_laws.proofs.Values.{valueOf}
 use Rattle.fit_partials.specs.Variables.{variablesOf}
 use Rattle.fit_partials.specs.Stored.{foundFitRows}
 use Rattle.fit_partials.specs.Through.{spanThrough, knotsWith, rowsWith, solutionWith, fineWith}
+use Rattle.fit_partials.proofs.Tidy.{zero-fine}
 use Rattle.fit_partials.proofs.PlainValues.{knot-value, fine-value}
 
 -- ---- two lists of knots that agree where the span is
@@ -137,10 +138,6 @@ module _ (q : List Float) (two : 2 ≤ pointsIn q) (few : pointsIn q ≤ 12) (ps
   knots-long : length (knotsWith q) ≡ 70
   unfolding knotsBy
   knots-long = length-listed 0 70 knot-of
-
-  zero-fine : fineDv (cstDv zero64) ≡ true
-  unfolding fineDv cstDv turns ofBits
-  zero-fine = refl
 
   past-fine : (j : ℕ) → 18 ≤ j → fineDv (knot-of j) ≡ true
   unfolding knotAt

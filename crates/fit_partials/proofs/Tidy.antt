@@ -1,5 +1,5 @@
 -- What every operation makes has no more partials than its operands and +0.0 past them: it lies in a cell as it is. Assumes nothing.
-use mathlib.Core.Path.{_≡_, sym, ap, _∙_}
+use mathlib.Core.Path.{_≡_, refl, sym, ap, _∙_}
 use mathlib.Core.Bool.{Bool, true, false, _&&_, cond}
 use mathlib.Core.List.{List}
 use Prim.Native.Nat.{ℕ, _≤_, _<_, min, max}
@@ -13,10 +13,11 @@ use lib.Ieee.{Float, binary64, nan, div, le, ofBits}
 use Rattle.meaning.specs.Root.{rootOf}
 use Rattle.meaning.specs.Scalar.{zero64, one64}
 use Rattle.meaning.specs.Search.{listed}
+use Rattle.meaning.specs.Loops.{turns}
 use Rattle.meaning.proofs.Tests.{by-two}
 use Rattle.meaning.proofs.Filling.{length-listed, nth-listed, listed-same, set-front}
 use Rattle.partials.specs.declared.Dv.{Dv}
-use Rattle.partials.specs.Dual.{countOf, partOf, partials, zipDv, mapDv, cstDv, varDv, addDv, subDv, mulDv, divDv, negDv, rootDv, dual}
+use Rattle.partials.specs.Dual.{countOf, partOf, partials, zipDv, mapDv, cstDv, varDv, addDv, subDv, mulDv, divDv, negDv, rootDv, fineDv, dual}
 use Rattle.cells.specs.Cell.{valueOf}
 use Rattle.cells.specs.Normal.{Normal}
 use Rattle.fit.proofs.Kept.{Kept}
@@ -36,6 +37,11 @@ partials-past n f h j a b =
 
 zero-at : (j : ℕ) → j < 27 → getD (replicate 27 zero64) j nan ≡ zero64
 zero-at j h = ap (λ (l : List Float). getD l j nan) (listed-same 0 27 zero64) ∙ nth-listed 27 j (λ i. zero64) nan h
+
+-- +0.0 is finite
+pub zero-fine : fineDv (cstDv zero64) ≡ true
+unfolding fineDv cstDv turns ofBits
+zero-fine = refl
 
 -- ---- in a cell
 
@@ -73,6 +79,10 @@ module _ (c : ℕ) where
   pub cst-tidy : (v : Float) → Tidy c (cstDv v)
   unfolding cstDv
   cst-tidy v = record { few = omega arith; zeros = λ j h l. zero-at j (omega (arith, length-replicate 27 zero64)) }
+
+  pub zero-normal : c ≤ 27 → Normal c (cstDv zero64)
+  unfolding cstDv
+  zero-normal h = tidy-normal c (cstDv zero64) h (length-replicate 27 zero64) (cst-tidy zero64)
 
   choose-tidy : (b : Bool) (x y : Dv) → Tidy c x → Tidy c y → Tidy c (cond b x y)
   choose-tidy true x y p q = p

@@ -8,7 +8,7 @@ ghost use Rattle.meaning.specs.Scalar.{zero64};
 ghost use Rattle.meaning.specs.Table.{at1};
 ghost use Rattle.meaning.specs.Search.{listed};
 ghost use Rattle.meaning.proofs.Filling.{Filled};
-ghost use Rattle.partials.specs.Dual.{fineDv, dual};
+ghost use Rattle.partials.specs.Dual.{fineDv, cstDv, dual};
 ghost use Rattle.plane_partials.specs.View.{viewD};
 ghost use Rattle.basis.specs.Basis.{window};
 ghost use Rattle.fit.specs.Parameters.{pointAt, stepAt, sumOf, parameterAt, knotAt, fitParameter};
@@ -19,7 +19,7 @@ ghost use Rattle.solve.specs.Rows.{flat};
 ghost use Rattle.shape.specs.Shape.{pointsIn};
 ghost use Rattle.fit_partials.specs.Through.{noPiece, pieceThrough, cellsFor, able, pieceIn, doublesAfter, countsAfter};
 ghost use Rattle.fit_partials.specs.View.{view};
-ghost use Rattle.fit_partials.specs.Stored.{Tidy, Laid, Room, foundRow, foundFitRow, foundFitRows, TidyFit};
+ghost use Rattle.fit_partials.specs.Stored.{Tidy, Laid, Room, Stored, sideOf, ofPoint, stationOf, spanRow, foundFitRows, ReadyFit};
 use partials::Dv;
 use plane_partials::P2d;
 use solve_partials::Four;
@@ -168,44 +168,50 @@ fn window_of(k: [Dv; 18], i: usize) -> [Dv; 6]
 
 // ---- the system
 
-// Column k of a row with the four numbers in the columns i - 3 to i.
-fn spread_at(four: [Dv; 4], i: usize, k: usize) -> Dv
-    requires { ⌜ k ≤ 14 ⌝ }
-    ensures { λ r. ⌜ r ≡ spread dual four i k ⌝ }
-{
-    if k + 3 < i {
-        return Dv::cst(0.0);
-    }
-    if k > i {
-        return Dv::cst(0.0);
-    }
-    four[k + 3 - i]
-}
-
-// Number k of a row of m matrix numbers and two right sides.
-fn number_at(four: [Dv; 4], i: usize, m: usize, b: P2d, k: usize) -> Dv
-    requires { ⌜ m ≤ 14 ⌝ }
-    ensures { λ r. ⌜ r ≡ withSides dual m (spread dual four i) (viewD b) k ⌝ }
-{
-    if k < m {
-        return spread_at(four, i, k);
-    }
-    if k == m {
-        return b.x;
-    }
-    b.y
-}
-
 // Puts a number into cell k, where it lies as it is. Answers whether its value and its partials are finite.
 fn store(w: &mut [f64], ns: &mut [u8], c: usize, k: usize, v: Dv) -> bool
     requires { ⌜ Room c k 1 (now w) (now ns) ⌝ ∗ ⌜ Tidy c v ⌝ }
-    ensures { λ r. ⌜ Laid c k 1 (λ j. v) (now (w .entry)) (now (ns .entry)) (now (w .exit)) (now (ns .exit)) ⌝ ∗ ⌜ r ≡ fineDv v ⌝ }
+    ensures { λ r. ⌜ Stored c k 1 (λ j. v) (now (w .entry)) (now (ns .entry)) (now (w .exit)) (now (ns .exit)) r ⌝ }
 {
     cells::put(w, ns, c, k, v);
     v.is_fine()
 }
 
-// A row of cells from cell `at` on, filled with four numbers and the right sides. Answers whether all that is stored is finite.
+// +0.0 in n cells from cell `at` on.
+fn blank(w: &mut [f64], ns: &mut [u8], c: usize, at: usize, n: usize)
+    requires { ⌜ Room c at n (now w) (now ns) ⌝ }
+    ensures { λ _. ⌜ Laid c at n (λ j. cstDv zero64) (now (w .entry)) (now (ns .entry)) (now (w .exit)) (now (ns .exit)) ⌝ }
+{
+    let zero = Dv::cst(0.0);
+    for k in 0..n {
+        cells::put(w, ns, c, at + k, zero);
+    }
+}
+
+// Four numbers in the cells from cell `at` on. Answers whether they are finite.
+fn store_four(w: &mut [f64], ns: &mut [u8], c: usize, at: usize, four: [Dv; 4]) -> bool
+    requires { ⌜ Room c at 4 (now w) (now ns) ⌝ ∗ ⌜ ((k : ℕ) → Tidy c (at1 dual four k)) ⌝ }
+    ensures { λ r. ⌜ Stored c at 4 (at1 dual four) (now (w .entry)) (now (ns .entry)) (now (w .exit)) (now (ns .exit)) r ⌝ }
+{
+    let mut fine = true;
+    for k in 0..4 {
+        fine = number::both(fine, store(w, ns, c, at + k, four[k]));
+    }
+    fine
+}
+
+// The right sides in cell `at` and the next. Answers whether they are finite.
+fn store_sides(w: &mut [f64], ns: &mut [u8], c: usize, at: usize, b: P2d) -> bool
+    requires { ⌜ Room c at 2 (now w) (now ns) ⌝ ∗ ⌜ Tidy c (b .x) × Tidy c (b .y) ⌝ }
+    ensures { λ r. ⌜ Stored c at 2 (sideOf (viewD b)) (now (w .entry)) (now (ns .entry)) (now (w .exit)) (now (ns .exit)) r ⌝ }
+{
+    let x = store(w, ns, c, at, b.x);
+    let y = store(w, ns, c, at + 1, b.y);
+    number::both(x, y)
+}
+
+// A row of cells from cell `at` on, filled with four numbers in the columns i - 3 to i and the right sides; the others are +0.0. Answers whether all
+// that is stored is finite.
 fn fill_row(
     w: &mut [f64],
     ns: &mut [u8],
@@ -216,78 +222,76 @@ fn fill_row(
     m: usize,
     b: P2d,
 ) -> bool
-    requires { ⌜ (m ≤ 14) × Room c at (m + 2) (now w) (now ns) ⌝ ∗ ⌜ ((k : ℕ) → Tidy c (withSides dual m (spread dual four i) (viewD b) k)) ⌝ }
-    ensures { λ r. ⌜ Laid c at (m + 2) (withSides dual m (spread dual four i) (viewD b)) (now (w .entry)) (now (ns .entry)) (now (w .exit)) (now (ns .exit)) ⌝
-        ∗ ⌜ r ≡ allFine dual (listed 0 (m + 2) (withSides dual m (spread dual four i) (viewD b))) ⌝ }
+    requires { ⌜ (3 ≤ i) × (i < m) × (m ≤ 14) × Room c at (m + 2) (now w) (now ns) ⌝
+        ∗ ⌜ ((k : ℕ) → Tidy c (at1 dual four k)) × Tidy c (b .x) × Tidy c (b .y) ⌝ }
+    ensures { λ r. ⌜ Stored c at (m + 2) (withSides dual m (spread dual four i) (viewD b))
+        (now (w .entry)) (now (ns .entry)) (now (w .exit)) (now (ns .exit)) r ⌝ }
 {
-    let mut fine = true;
-    let end = m + 2;
-    for k in 0..end {
-        let v = number_at(four, i, m, b, k);
-        fine = number::both(fine, store(w, ns, c, at + k, v));
+    let a = i - 3;
+    let e = a + 4;
+    blank(w, ns, c, at, a);
+    let first = store_four(w, ns, c, at + a, four);
+    blank(w, ns, c, at + e, m - e);
+    let second = store_sides(w, ns, c, at + m, b);
+    number::both(first, second)
+}
+
+// Whether row r is one of a point, of the rows for n points: the first and the last say that the curve ends straight.
+fn of_point(n: usize, r: usize) -> bool
+    ensures { λ b. ⌜ b ≡ ofPoint n r ⌝ }
+{
+    if r == 0 {
+        return false;
     }
-    fine
+    r <= n
 }
 
-// The row, from cell `at` on, that says: the derivative of order d at t is b. The knots are k, and u their values.
-fn set_row(
-    w: &mut [f64],
-    ns: &mut [u8],
-    c: usize,
-    at: usize,
-    k: [Dv; 18],
-    u: &[f64; 18],
-    m: usize,
-    t: Dv,
-    d: usize,
-    b: P2d,
-) -> bool
-    requires { ⌜ (4 ≤ m) × (m ≤ 14) × (d ≤ 4) × Room c at (m + 2) (now w) (now ns) ⌝
-        ∗ ⌜ ((j : ℕ) → Tidy c (at1 dual k j)) × Tidy c t × Tidy c (b .x) × Tidy c (b .y) ⌝ }
-    ensures { λ r. ⌜ Laid c at (m + 2) (at1 dual (foundRow k (now (u .entry)) m t d (viewD b)))
-        (now (w .entry)) (now (ns .entry)) (now (w .exit)) (now (ns .exit)) ⌝
-        ∗ ⌜ r ≡ allFine dual (foundRow k (now (u .entry)) m t d (viewD b)) ⌝ }
+// At which point's parameter row r stands, of the rows for n points.
+fn station(n: usize, r: usize) -> usize
+    requires { ⌜ (2 ≤ n) × (n ≤ 12) × (r < n + 2) ⌝ }
+    ensures { λ j. ⌜ (j ≡ stationOf n r) × (j < n) ⌝ }
 {
-    let i = span::span(u, m, t.v);
-    let six = window_of(k, i);
-    let ders = basis_partials::basis(six, t, d);
-    fill_row(w, ns, c, at, ders[d], i, m, b)
+    if r == 0 {
+        return 0;
+    }
+    if r <= n {
+        return r - 1;
+    }
+    n - 1
 }
 
-// Row r of the system of n fit points q with the parameters p, the knots k and their values u, in its cells.
-fn system_row<'a>(
+// Row r of the system of n fit points q, in its cells: at t, whose span is i, with the six knots of that span.
+fn system_row(
     w: &mut [f64],
     ns: &mut [u8],
     c: usize,
-    k: [Dv; 18],
-    u: &'a [f64; 18],
-    p: [Dv; 12],
-    q: &'a [f64],
+    six: [Dv; 6],
+    i: usize,
+    t: Dv,
+    q: &[f64],
     n: usize,
     r: usize,
 ) -> bool
-    requires { ⌜ (2 ≤ n) × (n ≤ 12) × (r < n + 2) × (2 * n ≤ length (now q)) × Room c (r * (n + 2 + 2)) (n + 2 + 2) (now w) (now ns) ⌝
-        ∗ ⌜ TidyFit c n k p (now q) ⌝ }
-    ensures { λ b. ⌜ Laid c (r * (n + 2 + 2)) (n + 2 + 2) (at1 dual (foundFitRow k (now (u .entry)) p (now (q .entry)) n r))
-        (now (w .entry)) (now (ns .entry)) (now (w .exit)) (now (ns .exit)) ⌝
-        ∗ ⌜ b ≡ allFine dual (foundFitRow k (now (u .entry)) p (now (q .entry)) n r) ⌝ }
+    requires { ⌜ (2 ≤ n) × (n ≤ 12) × (r < n + 2) × (2 * n ≤ length (now q)) × (length (now q) ≤ c) × (3 ≤ i) × (i < n + 2)
+        × Room c (r * (n + 2 + 2)) (n + 2 + 2) (now w) (now ns) ⌝
+        ∗ ⌜ ((j : ℕ) → Tidy c (at1 dual six j)) × Tidy c t ⌝ }
+    ensures { λ b. ⌜ Stored c (r * (n + 2 + 2)) (n + 2 + 2) (spanRow six i t (now (q .entry)) n r)
+        (now (w .entry)) (now (ns .entry)) (now (w .exit)) (now (ns .exit)) b ⌝ }
 {
     let m = n + 2;
     let at = r * (m + 2);
+    if of_point(n, r) {
+        let four = basis_straight::values(six, t);
+        let b = point(q, r - 1);
+        return fill_row(w, ns, c, at, four, i, m, b);
+    }
+    let four = basis_straight::second(six, t);
     let zero = Dv::cst(0.0);
-    if r == 0 {
-        return set_row(w, ns, c, at, k, u, m, zero, 2, P2d { x: zero, y: zero });
-    }
-    if r <= n {
-        let j = r - 1;
-        let b = point(q, j);
-        return set_row(w, ns, c, at, k, u, m, p[j], 0, b);
-    }
-    let one = Dv::cst(1.0);
-    set_row(w, ns, c, at, k, u, m, one, 2, P2d { x: zero, y: zero })
+    fill_row(w, ns, c, at, four, i, m, P2d { x: zero, y: zero })
 }
 
-// Every row of the system. Answers whether all that is stored is finite.
+// Every row of the system, with the parameters p, the knots k and their values u. Answers whether all that is stored is finite. What a row reads of the
+// arrays is taken out here: a row that was handed all of them would spend its time on copies.
 fn fill<'a>(
     w: &mut [f64],
     ns: &mut [u8],
@@ -299,7 +303,7 @@ fn fill<'a>(
     n: usize,
 ) -> bool
     requires { ⌜ (2 ≤ n) × (n ≤ 12) × (2 * n ≤ length (now q)) × Room c 0 ((n + 2) * (n + 2 + 2)) (now w) (now ns) ⌝
-        ∗ ⌜ TidyFit c n k p (now q) ⌝ }
+        ∗ ⌜ ReadyFit c n k p (now q) ⌝ }
     ensures { λ b. ⌜ Laid c 0 ((n + 2) * (n + 2 + 2)) (at1 dual (flat (foundFitRows k (now (u .entry)) p (now (q .entry)) n) []))
         (now (w .entry)) (now (ns .entry)) (now (w .exit)) (now (ns .exit)) ⌝
         ∗ ⌜ b ≡ allFine dual (flatten (foundFitRows k (now (u .entry)) p (now (q .entry)) n)) ⌝ }
@@ -307,7 +311,11 @@ fn fill<'a>(
     let mut fine = true;
     let m = n + 2;
     for r in 0..m {
-        fine = number::both(fine, system_row(w, ns, c, k, u, p, q, n, r));
+        let t = p[station(n, r)];
+        let i = span::span(u, m, t.v);
+        let a = i - 2;
+        let six = [k[a + 0], k[a + 1], k[a + 2], k[a + 3], k[a + 4], k[a + 5]];
+        fine = number::both(fine, system_row(w, ns, c, six, i, t, q, n, r));
     }
     fine
 }

@@ -1,63 +1,77 @@
--- `fit_partials::fill_row` meets its contract: a turn stores one number and judges it.
-use mathlib.Core.Path.{_≡_, sym, ap, _∙_, subst}
-use Prim.Native.Nat.{_+_, _-_, _≤_}
+-- `fit_partials::fill_row` meets its contract: blank cells, four numbers, blank cells, and the right sides.
+use mathlib.Core.Path.{_≡_, refl, _∙_}
+use Prim.Native.Nat.{_+_, _-_, _<_}
 use native.Mathlib.Omega.{arith}
-use Rattle.meaning.specs.Search.{every}
-use Rattle.meaning.proofs.Every.{every-none, every-next}
-use Rattle.partials.specs.Dual.{fineDv, dual}
 use Rattle.plane_partials.specs.View.{viewD}
-use Rattle.solve.proofs.Stored.{fine-listed}
-use Rattle.fit.specs.System.{spread, withSides}
-use Rattle.fit_partials.specs.Stored.{Tidy, Laid}
-use Rattle.fit_partials.proofs.Laid.{room-part, laid-none, laid-join}
+use Rattle.fit_partials.proofs.Laid.{room-part}
+use Rattle.fit_partials.proofs.Rows.{row-stored}
 use borrow.Author.Needs.{needs}
 use Rattle.fit_partials.proofs.fill_row.Statement.{statement}
 use Rattle.fit_partials.proofs.fill_row.Tie as tie
 
-abbrev Inv-loop : tie.InvT-loop
-Inv-loop w₀ ns₀ c at four i m b fine₀ end k₀ w ns fine k =
-    let row = withSides dual m (spread dual four i) (viewD b) in
-    Laid c at k row w₀ ns₀ w ns × (fine ≡ every k (λ j. fineDv (row j))) × (k ≤ m + 2)
+abbrev start-of : tie.After-blank → tie.Start
+start-of c = c .before .before .before .before .before
 
-abbrev μ-loop : tie.MeasureT-loop
-μ-loop w₀ ns₀ c at four i m b fine₀ end k₀ w ns fine k = m + 2 - k
+blank-requires : tie.Need-blank-requires
+blank-requires c κs =
+    let s = c .before .before .before .before in
+    let a = s .args in
+    let p = s .pre .0 in
+    room-part (a .c) (a .at) (a .m + 2) (a .at) (a .i - 3) (p .3) (omega (arith, p .0, p .1)) refl refl
 
-loop-holds : tie.Need-loop-holds Inv-loop μ-loop
-loop-holds c = (laid-none _ _ _ _ _, every-none _, search needs)
+store-four-requires : tie.Need-store-four-requires
+store-four-requires c κs =
+    let call = c .before .before .before .before .before .before in
+    let s = start-of call in
+    let a = s .args in
+    let p = s .pre .0 in
+    let done = call .blank .ensures in
+    (room-part (a .c) (a .at) (a .m + 2) (a .at + (a .i - 3)) 4 (p .3) (omega (arith, p .0, p .1)) (done .doubles) (done .bytes), s .pre .1 .0)
 
-store-requires : tie.Need-store-requires Inv-loop μ-loop
-store-requires c κs =
-    let l = c .before .before .before .before .loop in
-    let s = c .before .before .before .before .before .before .before in
-    let a = s .args in (
-      room-part (a .c) (a .at) (a .m + 2) (a .at + l .k) 1 (s .pre .0 .1) (omega (arith, c .before .before .before .loop-test .taken))
-          (l .inv .0 .doubles) (l .inv .0 .bytes),
-      subst (Tidy (a .c)) (sym (c .before .before .number-at .ensures)) (s .pre .1 (l .k)),
+blank-requires-2 : tie.Need-blank-requires-2
+blank-requires-2 c κs =
+    let call = c .before .before .before .before .before .before in
+    let first = call .before .before .before .before .before .before .before in
+    let s = start-of first in
+    let a = s .args in
+    let p = s .pre .0 in
+    let done = call .store-four .ensures .laid in
+    let before = first .blank .ensures in
+    room-part (a .c) (a .at) (a .m + 2) (a .at + (a .i - 3 + 4)) (a .m - (a .i - 3 + 4)) (p .3) (omega (arith, p .0, p .1))
+    (done .doubles ∙ before .doubles) (done .bytes ∙ before .bytes)
+
+store-sides-requires : tie.Need-store-sides-requires
+store-sides-requires c κs =
+    let call = c .before .before .before .before .before .before in
+    let second = call .before .before .before .before .before .before .before in
+    let first = second .before .before .before .before .before .before .before in
+    let s = start-of first in
+    let a = s .args in
+    let p = s .pre .0 in
+    let last = call .blank2 .ensures in
+    let done = second .store-four .ensures .laid in
+    let before = first .blank .ensures in (
+      room-part (a .c) (a .at) (a .m + 2) (a .at + a .m) 2 (p .3) (omega arith) (last .doubles ∙ done .doubles ∙ before .doubles)
+          (last .bytes ∙ done .bytes ∙ before .bytes),
+      (s .pre .1 .1, s .pre .1 .2),
     )
 
-loop-again : tie.Need-loop-again Inv-loop μ-loop
-loop-again c =
-    let call = c .before .before .before .before .before in
-    let made = call .before .before .before in
-    let l = made .before .before .loop in
-    let a = made .before .before .before .before .before .args in
-    let row = withSides dual (a .m) (spread dual (a .four) (a .i)) (viewD (a .b)) in
-    let v = made .number-at .ensures in (
-      laid-join (a .c) (a .at) (l .k) 1 row (λ j. made .number-at .result) (l .inv .0) (call .store .ensures .0)
-          (λ j h. let e : l .k + j ≡ l .k = omega arith in v ∙ ap row (sym e)),
-      every-next _ (l .k) (l .inv .1) (call .store .ensures .1 ∙ ap fineDv v) (c .both .ensures),
-      search needs,
-    )
-
-returns : tie.Need-returns Inv-loop μ-loop
+returns : tie.Need-returns
 returns c =
-    let l = c .before .loop in
-    let m = c .before .before .before .before .args .m in
-    let e : l .k ≡ m + 2 = omega arith in
-    (rw e at (l .inv .0), rw e at (l .inv .1) ∙ sym (fine-listed dual (m + 2) _))
+    let sides = c .before .before .before .before .before in
+    let back = sides .before .before .before .before .before .before .before in
+    let four = back .before .before .before .before .before .before .before in
+    let front = four .before .before .before .before .before .before .before in
+    let s = start-of front in
+    let a = s .args in
+    let p = s .pre .0 in
+    let e : a .i - 3 + 3 ≡ a .i = omega (arith, p .0) in
+    let high : a .i - 3 + 3 < a .m = omega (arith, p .0, p .1) in
+    row-stored (a .c) (a .at) (a .i - 3) (a .m) (a .four) (viewD (a .b)) high e (front .blank .ensures) (four .store-four .ensures) (back .blank2 .ensures)
+    (sides .store-sides .ensures) (c .both .ensures)
 
 pub fill-row-spec : {M : Type 1} → statement M
 fill-row-spec =
     tie.close
-    (tie.spec Inv-loop μ-loop (search needs) loop-holds (search needs) (search needs) store-requires (search needs)
-    (search needs) (search needs) loop-again (search needs) (search needs) returns)
+    (tie.spec (search needs) (search needs) blank-requires (search needs) store-four-requires (search needs) (search needs) blank-requires-2
+    (search needs) store-sides-requires (search needs) (search needs) (search needs) returns)

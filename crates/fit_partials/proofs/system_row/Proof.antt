@@ -1,87 +1,88 @@
--- `fit_partials::system_row` meets its contract: each case of the definition.
-use mathlib.Core.Path.{sym, subst}
-use Prim.Native.Nat.{_-_}
+-- `fit_partials::system_row` meets its contract: a row of a point, or one of the two at the ends.
+use mathlib.Core.Path.{_≡_, sym, ap, subst, _∙_}
+use Prim.Native.Nat.{_*_, _+_, _≤_}
 use native.Mathlib.Omega.{arith}
 use denote.Ref.{now}
-use Rattle.meaning.specs.Scalar.{zero64, one64}
+use Rattle.meaning.specs.Scalar.{zero64}
 use Rattle.partials.specs.declared.Dv.{Dv}
 use Rattle.plane.specs.Vector.{Vector}
 use Rattle.fit_partials.specs.Stored.{Tidy}
 use Rattle.fit_partials.proofs.Tidy.{cst-tidy}
-use Rattle.fit_partials.proofs.Numbers.{variables-tidy}
-use Rattle.fit_partials.proofs.Rows.{first-row, point-row, last-row, stored-as}
+use Rattle.fit_partials.proofs.Numbers.{variables-tidy, four-tidy}
+use Rattle.fit_partials.proofs.Laid.{stored-as}
+use Rattle.fit_partials.proofs.Rows.{of-point, point-numbers, end-numbers}
 use borrow.Author.Needs.{needs}
 use Rattle.fit_partials.proofs.system_row.Statement.{statement}
 use Rattle.fit_partials.proofs.system_row.Tie as tie
 
-mul-at : tie.Need-mul-at
-mul-at c = omega (arith, c .before .before .before .pre .0 .4 .few)
-
-abbrev start-of : tie.After-cst → tie.Start
+abbrev start-of : tie.After-of-point → tie.Start
 start-of c = c .before .before .before .before
 
-zero-tidy : (c : tie.After-cst) → Tidy (start-of c .args .c) (c .cst .result)
-zero-tidy c = subst (Tidy (start-of c .args .c)) (sym (c .cst .ensures)) (cst-tidy _ zero64)
+mul-at : tie.Need-mul-at
+mul-at c = omega (arith, c .before .before .before .pre .0 .7 .few)
 
-set-row-requires : tie.Need-set-row-requires
-set-row-requires c κs =
-    let z = c .before .before .before in
-    let s = start-of z in
-    let p = s .pre .0 in
-    ((omega (arith, p .0), omega (arith, p .1), omega arith, p .4), (s .pre .1 .knots, zero-tidy z, zero-tidy z, zero-tidy z))
+-- where the row is one of a point
+inner : (c : tie.Then1) → let a = start-of (c .before) .args in (a .r ≡ 0 → ⊥) × (a .r ≤ a .n)
+inner c = let a = start-of (c .before) .args in of-point (a .n) (a .r) (sym (c .before .of-point .ensures) ∙ c .if1 .taken)
 
-set-row-requires-2 : tie.Need-set-row-requires-2
-set-row-requires-2 c κs =
-    let b = c .before .before .before in
-    let i = b .before in
-    let s = start-of (i .before .before) in
+sub-point : tie.Need-sub-point
+sub-point c = omega (arith, inner (c .before))
+
+point-requires : tie.Need-point-requires
+point-requires c κs = omega (arith, inner (c .before), start-of (c .before .before) .pre .0 .3)
+
+fill-row-requires : tie.Need-fill-row-requires
+fill-row-requires c κs =
+    let b = c .before .before in
+    let v = b .before in
+    let s = start-of (v .before .before) in
     let a = s .args in
     let p = s .pre .0 in
-    let t = s .pre .1 in
     let point = b .point .ensures in
-    let v = variables-tidy (a .c) (now (a .q)) (t .points) in (
-      (omega (arith, p .0), omega (arith, p .1), omega arith, p .4),
+    let tidy = variables-tidy (a .c) (now (a .q)) (p .4) in (
+      (p .5, p .6, omega (arith, p .1), p .7),
       (
-        t .knots,
-        t .parameters (a .r - 1) (omega (arith, i .if2 .taken, i .before .if1 .left)),
-        subst (λ (x : Vector Dv). Tidy (a .c) (x .x)) (sym point) (v _),
-        subst (λ (x : Vector Dv). Tidy (a .c) (x .y)) (sym point) (v _),
+        four-tidy (a .c) (a .six) (a .t) 0 (s .pre .1 .0) (s .pre .1 .1) (v .values .ensures),
+        subst (λ (x : Vector Dv). Tidy (a .c) (x .x)) (sym point) (tidy _),
+        subst (λ (x : Vector Dv). Tidy (a .c) (x .y)) (sym point) (tidy _),
       ),
-    )
-
-set-row-requires-3 : tie.Need-set-row-requires-3
-set-row-requires-3 c κs =
-    let one = c .before .before in
-    let z = one .before .before .before in
-    let s = start-of z in
-    let p = s .pre .0 in (
-      (omega (arith, p .0), omega (arith, p .1), omega arith, p .4),
-      (s .pre .1 .knots, subst (Tidy (s .args .c)) (sym (one .cst2 .ensures)) (cst-tidy _ one64), zero-tidy z, zero-tidy z),
     )
 
 returns : tie.Need-returns
 returns c =
     let call = c .before .before .before .before in
-    let i = call .before .before .before in
-    stored-as (first-row _ _ _ _ _ _ (i .if1 .taken) (i .before .cst .ensures)) (call .set-row .ensures)
+    let b = call .before .before .before in
+    let i = b .before .before in
+    let a = start-of (i .before) .args in
+    stored-as (a .c) (a .r * (a .n + 2 + 2)) (a .n + 2 + 2) _ _
+    (λ k h. point-numbers (a .six) (a .i) (a .t) (now (a .q)) (a .n) (a .r) (sym (i .before .of-point .ensures) ∙ i .if1 .taken) (b .before .values .ensures) (b .point .ensures) k)
+    (call .fill-row .ensures)
+
+fill-row-requires-2 : tie.Need-fill-row-requires-2
+fill-row-requires-2 c κs =
+    let z = c .before .before in
+    let v = z .before in
+    let s = start-of (v .before .before) in
+    let a = s .args in
+    let p = s .pre .0 in
+    let zero = subst (Tidy (a .c)) (sym (z .cst .ensures)) (cst-tidy _ zero64) in (
+      (p .5, p .6, omega (arith, p .1), p .7),
+      (four-tidy (a .c) (a .six) (a .t) 2 (s .pre .1 .0) (s .pre .1 .1) (v .second .ensures), zero, zero),
+    )
 
 returns-2 : tie.Need-returns-2
 returns-2 c =
     let call = c .before .before .before .before in
-    let b = call .before .before .before .before in
-    let i = b .before in
-    stored-as (point-row _ _ _ _ _ _ (i .before .if1 .left) (i .if2 .taken) (b .point .ensures)) (call .set-row2 .ensures)
-
-returns-3 : tie.Need-returns-3
-returns-3 c =
-    let call = c .before .before .before .before in
-    let one = call .before .before .before in
-    let i = one .before in
-    stored-as (last-row _ _ _ _ _ _ (i .before .if1 .left) (i .if2 .left) (i .before .before .cst .ensures) (one .cst2 .ensures)) (call .set-row3 .ensures)
+    let z = call .before .before .before in
+    let i = z .before .before in
+    let a = start-of (i .before) .args in
+    stored-as (a .c) (a .r * (a .n + 2 + 2)) (a .n + 2 + 2) _ _
+    (λ k h. end-numbers (a .six) (a .i) (a .t) (now (a .q)) (a .n) (a .r) (sym (i .before .of-point .ensures) ∙ i .if1 .left) (z .before .second .ensures)
+    (λ j. record { x = z .cst .ensures j; y = z .cst .ensures j }) k)
+    (call .fill-row2 .ensures)
 
 pub system-row-spec : {M : Type 1} → statement M
 system-row-spec =
     tie.close
-    (tie.spec (search needs) (search needs) mul-at (search needs) set-row-requires (search needs) (search needs)
-    returns (search needs) (search needs) (search needs) (search needs) set-row-requires-2 (search needs)
-    (search needs) returns-2 (search needs) set-row-requires-3 (search needs) (search needs) returns-3)
+    (tie.spec (search needs) (search needs) mul-at (search needs) (search needs) sub-point point-requires fill-row-requires (search needs) (search needs)
+    returns (search needs) (search needs) fill-row-requires-2 (search needs) (search needs) returns-2)

@@ -1,21 +1,22 @@
 -- Cells in two slices: which there are, and what writing one makes of all of them. Assumes nothing.
-use mathlib.Core.Path.{_≡_, sym, ap, _∙_, subst}
-use mathlib.Core.Bool.{true}
+use mathlib.Core.Path.{_≡_, refl, sym, ap, _∙_, subst}
+use mathlib.Core.Bool.{true, cond}
 use mathlib.Core.List.{List, _++_, append-assoc}
-use Prim.Native.Nat.{ℕ, _+_, _-_, _*_, _≤_, _<_, min}
+use Prim.Native.Nat.{ℕ, zero, suc, _+_, _-_, _*_, _≤_, _<_, min}
 use native.Mathlib.Nat.{min-eq-left}
 use native.Mathlib.Omega.{arith}
 use lib.ListN.{length, getD, set, take, drop, length-set, List·getD-append}
 use lib.Seq.{paste, getD-append-add, getD-take, getD-drop, getD-set-same, getD-set-other, length-take-le, length-paste, length-paste-head, take-all}
 use lib.Dec.{leb, ltb}
-use borrow.Author.Tests.{leb-true, ltb-true, ltb-false, le-leb, lt-ltb}
+use borrow.Author.Tests.{leb-true, ltb-true, ltb-false, le-leb, le-ltb, lt-ltb}
 use borrow.Rule.Slice.PartMut.{putMid, post-is}
 use lib.Ieee.{Float, nan}
 use Rattle.meaning.proofs.Tests.{by-two, and-left, and-right}
-use Rattle.meaning.proofs.Filling.{length-listed, nth-listed}
+use Rattle.meaning.specs.Scalar.{zero64}
+use Rattle.meaning.proofs.Filling.{Filled, full, length-listed, nth-listed}
 use Rattle.solve.proofs.Lists.{row-le}
 use Rattle.partials.specs.declared.Dv.{Dv}
-use Rattle.partials.specs.Dual.{partOf}
+use Rattle.partials.specs.Dual.{countOf, partOf}
 use Rattle.cells.specs.Cell.{valueOf, cellAt, headed, doublesOf, hasCell, readAt, doublesWith, countsWith}
 use Rattle.cells.specs.Normal.{Normal}
 use Rattle.cells.proofs.Values.{value-same}
@@ -142,3 +143,23 @@ module _ (c : ℕ) (w : List Float) (ns : List ℕ) (k : ℕ) (t : There (length
     unfolding doublesWith countsWith
     with-other i q =
         rw (there-is (length w) (length ns) c k t) (put-other c w (doublesOf c d) ns k (min (d .n) c) (t .byte) (t .room) (doubles-long c d) i q)
+
+-- ---- the doubles of a cell: its n partials that there is room for, and +0.0 past them
+module _ (c n : ℕ) (d : Dv) (e : n ≡ min (countOf d) c) where
+  -- number i, where the first n + 1 are written
+  written : (i : ℕ) → i < n + 1 → headed (d .v) (λ k. getD (d .g) k nan) i ≡ headed (d .v) (partOf d) i
+  written zero h = refl
+  written (suc k) h = rw (lt-ltb k (countOf d) (omega arith)) refl
+
+  -- and past them
+  missing : (i : ℕ) → n + 1 ≤ i → i < c + 1 → zero64 ≡ headed (d .v) (partOf d) i
+  missing zero h l = absurd (omega arith)
+  missing (suc k) h l = rw (le-ltb k (countOf d) (omega arith)) refl
+
+  pub cell-filled : {j : ℕ} {t t′ : List Float} → Filled (headed (d .v) (λ k. getD (d .g) k nan)) nan (c + 1) (n + 1) t
+      → Filled (λ k. cond (ltb k (n + 1)) (getD t k nan) zero64) nan (c + 1) (j + 1) t′ → c ≤ j → t′ ≡ doublesOf c d
+  unfolding doublesOf
+  cell-filled {j} {t} {t′} a b h =
+      let number : (i : ℕ) → i < c + 1 → cond (ltb i (n + 1)) (getD t i nan) zero64 ≡ headed (d .v) (partOf d) i =
+      λ i l. by-two (ltb i (n + 1)) (λ q. let g = ltb-true i (n + 1) q in rw q (a .same i g ∙ written i g)) (λ q. rw q (missing i (ltb-false i (n + 1) q) l)) in
+      full {k = j + 1} (record { long = b .long; high = b .high; same = λ i l. b .same i l ∙ number i (omega (arith, b .high)) }) (omega arith)

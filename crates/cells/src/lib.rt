@@ -4,7 +4,6 @@ ghost use Prim.Native.Nat.{_+_, _*_, _<_, _≤_, min};
 ghost use lib.ListN.{length, getD, set};
 ghost use lib.Seq.{paste};
 ghost use lib.Ieee.{nan};
-ghost use Rattle.partials.specs.Dual.{partAt};
 ghost use Rattle.cells.specs.Cell.{valueOf, cellAt, doublesOf, hasCell, readAt, doublesWith, countsWith};
 use partials::Dv;
 
@@ -75,27 +74,19 @@ pub fn get(w: &[f64], ns: &[u8], c: usize, k: usize) -> Dv
     get_cell(w, ns, c, k)
 }
 
-// Partial j of the n that stand in g: a missing one reads as +0.0.
-fn part(g: &[f64; 27], n: usize, j: usize) -> f64
-    requires { ⌜ n ≤ 27 ⌝ }
-    ensures { λ r. ⌜ r ≡ partAt (now (g .entry)) n j ⌝ }
-{
-    if j < n {
-        return g[j];
-    }
-    0.0
-}
-
 // The c + 1 doubles of a cell replaced by those of d.
 fn write_cell(t: &mut [f64], d: Dv, c: usize)
     requires { ⌜ length (now t) ≡ c + 1 ⌝ }
     ensures { λ _. ⌜ now (t .exit) ≡ doublesOf c d ⌝ }
 {
     let g = d.g;
-    let n = counted(d.n, 27);
+    let n = counted(counted(d.n, 27), c);
     t[0] = d.v;
-    for j in 0..c {
-        t[j + 1] = part(&g, n, j);
+    for j in 0..n {
+        t[j + 1] = g[j];
+    }
+    for j in n..c {
+        t[j + 1] = 0.0;
     }
 }
 

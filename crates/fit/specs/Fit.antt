@@ -1,21 +1,21 @@
 -- A curve through points. docs/RULES.md, "Fit points", "Work" and "When 15 is given", decides.
 use mathlib.Core.Bool.{Bool, cond}
-use mathlib.Core.List.{List, _++_, flatten}
+use mathlib.Core.List.{List}
 use Prim.Native.Nat.{ℕ, _+_}
 use lib.Ieee.{Float}
 use Rattle.meaning.specs.Scalar.{plain}
 use Rattle.refusal.specs.Refusals.{passes}
 use Rattle.knots.specs.declared.Form.the-variants.{Fit}
 use Rattle.span.specs.Span.{spanOf}
-use Rattle.solve.specs.Stored.{allFine, storedBySolve}
-use Rattle.solve.specs.Outcome.{Solution, solutionOf, workOf}
+use Rattle.solve.specs.Stored.{allFine}
+use Rattle.solve.specs.Outcome.{Solution, workOf}
 use Rattle.shape.specs.Shape.{pointsIn}
 use Rattle.curve.specs.declared.Curve.{Curve}
 use Rattle.curve.specs.declared.Built.{Built}
 use Rattle.curve.specs.Record.{curveOver}
 use Rattle.curve.specs.Build.{roomRules}
-use Rattle.fit.specs.Parameters.{fitParameter, fitKnots}
-use Rattle.fit.specs.System.{fitRows}
+use Rattle.fit.specs.Parameters.{fitKnots}
+use Rattle.fit.specs.Through.{rowsOver, solutionOver, storedOver}
 
 -- how many control points the curve through the points q has
 abbrev pub controlsFor : List Float → ℕ
@@ -25,20 +25,22 @@ controlsFor q = pointsIn q + 2
 abbrev pub knotsThrough : List Float → List Float
 knotsThrough q = fitKnots plain q (pointsIn q)
 
-abbrev pub rowsThrough : List Float → List (List Float)
-rowsThrough q =
-    fitRows plain (spanOf (knotsThrough q) (controlsFor q)) (knotsThrough q) (fitParameter plain q (pointsIn q)) q (pointsIn q)
+abbrev pub spanThrough : List Float → Float → ℕ
+spanThrough q = spanOf (knotsThrough q) (controlsFor q)
 
--- their solution: the control points, and whether every number stored by the solve is finite
+abbrev pub rowsThrough : List Float → List (List Float)
+rowsThrough q = rowsOver plain (spanThrough q) q (pointsIn q)
+
+-- their solution
 unfoldable pub solutionThrough : List Float → Solution Float
-solutionThrough q = solutionOf plain (controlsFor q) (rowsThrough q)
+solutionThrough q = solutionOver plain (spanThrough q) q (pointsIn q)
 
 unfoldable pub curveThrough : List Float → Curve
 curveThrough q = let s = solutionThrough q in curveOver (controlsFor q) (knotsThrough q) (s .xs) (s .ys)
 
--- every number that is stored: the knots, the matrix with the right sides, and what the solve stores. The steps are not stored.
+-- every number that is stored
 unfoldable pub storedThrough : List Float → List Float
-storedThrough q = knotsThrough q ++ flatten (rowsThrough q) ++ storedBySolve plain (controlsFor q) (rowsThrough q)
+storedThrough q = storedOver plain (spanThrough q) q (pointsIn q)
 
 -- each of them is finite
 unfoldable pub fitFine : List Float → Bool

@@ -27,10 +27,10 @@ use Rattle.solve.specs.Outcome.{Solution, column, zeros, noSolution, solutionOf
 use Rattle.solve.proofs.Answers.{column-length}
 use Rattle.solve_partials.specs.Outcome as Solve
 use Rattle.fit.specs.Parameters.{knotAt, fitParameter}
-use Rattle.fit.specs.Fit.{knotsThrough}
+use Rattle.fit.specs.Fit.{knotsThrough, spanThrough}
 use Rattle.fit_partials.specs.Variables.{variablesOf}
 use Rattle.fit_partials.specs.Stored.{Laid, Room, foundFitRows}
-use Rattle.fit_partials.specs.Through.{spanThrough, knotsWith, solutionWith, fineWith, noPiece, pieceThrough}
+use Rattle.fit_partials.specs.Through.{knotsWith, solutionWith, fineWith, noPiece, pieceThrough}
 use Rattle.fit_partials.specs.Through.{cellsFor, able, pieceIn, doublesAfter, countsAfter}
 use Rattle.fit_partials.proofs.Laid.{laid-rows}
 use Rattle.fit_partials.proofs.Rows.{found-shaped}

@@ -36,14 +36,14 @@ use Rattle.outcome.specs.Outcome.{someWild}
 use Rattle.outcome.proofs.Wild.{none-wild}
 use Rattle.fit.specs.Parameters.{pointAt, knotAt, knotsBy, fitParameter, fitKnots}
 use Rattle.fit.specs.System.{origin, spread, withSides, rowAt, rowOf, fitRow, fitRows}
-use Rattle.fit.specs.Fit.{controlsFor, knotsThrough}
+use Rattle.fit.specs.Fit.{controlsFor, knotsThrough, spanThrough}
 use Rattle.fit.proofs.Sums.{knot-cong}
 use Rattle.fit.proofs.Rows.{fit-rows-cong}
 use Rattle.fit.proofs.Rising.{fit-span}
 use Rattle.value_laws.proofs.Values.{valueOf}
 use Rattle.fit_partials.specs.Variables.{variablesOf}
 use Rattle.fit_partials.specs.Stored.{foundFitRows}
-use Rattle.fit_partials.specs.Through.{spanThrough, knotsWith, rowsWith, solutionWith, fineWith}
+use Rattle.fit_partials.specs.Through.{knotsWith, rowsWith, solutionWith, fineWith}
 use Rattle.fit_partials.proofs.Tidy.{zero-fine}
 use Rattle.fit_partials.proofs.PlainValues.{knot-value, fine-value}
 

@@ -1,7 +1,7 @@
 -- A curve through 2 to 12 points with partials with respect to their coordinates. docs/RULES.md, "Fit points", "Partials", "Work" and "When 15 is given",
--- decides. The definitions are those of the fit at the other scalar; the span is the rules', among the values of the knots, which are the plain fit's.
+-- decides. The definitions are the fit's, at the other scalar; the span of a parameter is the plain fit's, whose knots are the values of these.
 use mathlib.Core.Bool.{Bool, true, false, _&&_, cond}
-use mathlib.Core.List.{List, _++_, flatten}
+use mathlib.Core.List.{List, _++_}
 use Prim.Native.Nat.{ℕ, _+_, _-_, _*_, _/_}
 use lib.Dec.{leb}
 use lib.ListN.{length, drop, replicate}
@@ -9,35 +9,30 @@ use lib.Ieee.{Float}
 use Rattle.meaning.specs.Scalar.{zero64}
 use Rattle.partials.specs.declared.Dv.{Dv}
 use Rattle.partials.specs.Dual.{cstDv, dual}
-use Rattle.span.specs.Span.{spanOf}
 use Rattle.basis.specs.Basis.{window}
 use Rattle.shape.specs.Shape.{pointsIn}
 use Rattle.evaluate.specs.Piece.{fourOf}
-use Rattle.solve.specs.Stored.{allFine, storedBySolve}
-use Rattle.solve.specs.Outcome.{Solution, solutionOf}
-use Rattle.fit.specs.Parameters.{fitParameter, fitKnots}
-use Rattle.fit.specs.System.{fitRows}
-use Rattle.fit.specs.Fit.{controlsFor, knotsThrough}
+use Rattle.solve.specs.Stored.{allFine}
+use Rattle.solve.specs.Outcome.{Solution}
+use Rattle.fit.specs.Parameters.{fitKnots}
+use Rattle.fit.specs.Through.{rowsOver, solutionOver, storedOver}
+use Rattle.fit.specs.Fit.{spanThrough}
 use Rattle.fit_partials.specs.Variables.{variablesOf}
-
--- the span of a parameter
-abbrev pub spanThrough : List Float → Float → ℕ
-spanThrough q = spanOf (knotsThrough q) (controlsFor q)
 
 -- the knots, and the rows of the system
 abbrev pub knotsWith : List Float → List Dv
 knotsWith q = fitKnots dual (variablesOf q) (pointsIn q)
 
 abbrev pub rowsWith : List Float → List (List Dv)
-rowsWith q = fitRows dual (spanThrough q) (knotsWith q) (fitParameter dual (variablesOf q) (pointsIn q)) (variablesOf q) (pointsIn q)
+rowsWith q = rowsOver dual (spanThrough q) (variablesOf q) (pointsIn q)
 
--- the control points, and whether every number stored by the solve is finite with its partials
+-- their solution
 unfoldable pub solutionWith : List Float → Solution Dv
-solutionWith q = solutionOf dual (controlsFor q) (rowsWith q)
+solutionWith q = solutionOver dual (spanThrough q) (variablesOf q) (pointsIn q)
 
--- every number that is stored is finite, with its partials: the knots, the matrix with the right sides, and what the solve stores
+-- every number that is stored is finite, with its partials
 unfoldable pub fineWith : List Float → Bool
-fineWith q = allFine dual (knotsWith q ++ flatten (rowsWith q) ++ storedBySolve dual (controlsFor q) (rowsWith q))
+fineWith q = allFine dual (storedOver dual (spanThrough q) (variablesOf q) (pointsIn q))
 
 -- ---- what one span reads of the curve
 

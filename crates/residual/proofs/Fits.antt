@@ -21,7 +21,7 @@ use Rattle.shape.specs.Shape.{pointsIn}
 use Rattle.span.specs.Span.{spanOf}
 use Rattle.evaluate.specs.Piece.{fourOf}
 use Rattle.fit.specs.Parameters.{knotAt, knotsBy, fitParameter}
-use Rattle.fit.specs.Fit.{controlsFor, knotsThrough}
+use Rattle.fit.specs.Fit.{controlsFor, knotsThrough, spanThrough}
 use Rattle.fit_partials.specs.declared.Piece as fit-code
 use Rattle.fit_partials.specs.Variables.{variablesOf}
 use Rattle.fit_partials.specs.Through as fit
@@ -60,7 +60,7 @@ module _ (q : List Float) (c : ℕ) (work : List Float) (counts : List ℕ) (rea
   unfolding knotsBy
   knots-values = map-listed (dual .val) 0 70 knot-of ∙ ap (listed 0 70) (λ i j. knot-value q n j short i)
 
-  span-is : (t : Float) → spanIn (fitShape q) t ≡ fit.spanThrough q t
+  span-is : (t : Float) → spanIn (fitShape q) t ≡ spanThrough q t
   unfolding fitShape
   span-is t = ap (λ (l : List Float). spanOf l (controlsFor q) t) knots-values
 
@@ -84,7 +84,7 @@ module _ (q : List Float) (c : ℕ) (work : List Float) (counts : List ℕ) (rea
       → fit.pieceThrough q (clampOf t zero64 one64) ≡ record { knots = ks; xs = xs; ys = ys; fine = b } → Read (fitShape q) t (unit ks xs ys b)
   unfolding fitShape fit.pieceThrough
   fit-read t ks xs ys b f e =
-      let i = fit.spanThrough q (clampOf t zero64 one64) in
+      let i = spanThrough q (clampOf t zero64 one64) in
       let s = fit.solutionWith q in
       let is : fit.pieceThrough q (clampOf t zero64 one64)
       ≡ record { knots = window dual (fit.knotsWith q) i; xs = fourOf dual (s .xs) (i - 3) 1; ys = fourOf dual (s .ys) (i - 3) 1; fine = true } = rw f in

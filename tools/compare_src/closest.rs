@@ -31,13 +31,7 @@ pub fn run(random: &mut Random, rounds: u64) -> Tally {
     let mut unlike = Unlike::default();
     for _ in 0..rounds {
         let messy = random.once_in(16);
-        let mut drawn = Drawn::draw(random);
-        let damages = match random.below(24) {
-            _ if messy => 1 + random.below(2),
-            0 => 1,
-            _ => 0,
-        };
-        (0..damages).for_each(|_| drawn.layout.damage(random));
+        let drawn = Drawn::draw_damaged(random, messy);
         let (mut point, place) = drawn.point(random);
         if random.once_in(if messy { 4 } else { 64 }) {
             point[random.below(2) as usize] = not_finite(random);
@@ -245,7 +239,19 @@ pub struct Drawn {
 }
 
 impl Drawn {
-    pub fn draw(random: &mut Random) -> Self {
+    /// A messy one has one damage or two, another seldom one.
+    pub fn draw_damaged(random: &mut Random, messy: bool) -> Self {
+        let mut drawn = Drawn::draw(random);
+        let damages = match random.below(24) {
+            _ if messy => 1 + random.below(2),
+            0 => 1,
+            _ => 0,
+        };
+        (0..damages).for_each(|_| drawn.layout.damage(random));
+        drawn
+    }
+
+    fn draw(random: &mut Random) -> Self {
         let n = match random.below(32) {
             0..24 => random.within(4, 8),
             24..31 => random.within(4, 20),

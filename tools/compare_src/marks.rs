@@ -17,13 +17,7 @@ pub fn run(random: &mut Random, rounds: u64) -> Tally {
     let mut tally = Tally::default();
     for _ in 0..rounds {
         let messy = random.once_in(8);
-        let mut drawn = Drawn::draw(random);
-        let damages = match random.below(24) {
-            _ if messy => 1 + random.below(2),
-            0 => 1,
-            _ => 0,
-        };
-        (0..damages).for_each(|_| drawn.layout.damage(random));
+        let drawn = Drawn::draw_damaged(random, messy);
         let many = match random.below(16) {
             0 => 0,
             1 => 1,

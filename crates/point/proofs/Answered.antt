@@ -9,14 +9,13 @@ use Rattle.refusal.specs.declared.Refusal.{Refusal}
 use Rattle.refusal.specs.Refusals.{firstOf}
 use Rattle.refusal.proofs.Rows.{Passed}
 use Rattle.knots.specs.declared.Form.the-variants.{Control}
-use Rattle.knots.proofs.Accepted.{Accepted, accepted}
 use Rattle.span.proofs.Spans.{accepted-span}
 use Rattle.outcome.specs.Outcome.{outcome, answering}
 use Rattle.outcome.proofs.Doors.{leaves, refused, after}
 use Rattle.shape.specs.Shape.{pointsIn, sliceShape}
 use Rattle.shape.specs.Rules.{handleRules}
 use Rattle.shape.specs.Offered.{Offered}
-use Rattle.shape.proofs.Handles.{handles-passed-knots}
+use Rattle.shape.proofs.Handles.{slices-accepted}
 use Rattle.shape.proofs.Sound.{Sound}
 use Rattle.evaluate.specs.Point.{ordersOf}
 use Rattle.evaluate.specs.Piece.{found, sliceOrders}
@@ -61,8 +60,5 @@ module _ (who : Offered) (s : Sound who) (p : Passed (who .rules)) (t : Float) w
 -- ---- slices that their rules let through
 
 module _ (coords ks : List Float) (p : Passed (handleRules Control coords true ks)) where
-  pub slices-accepted : Accepted ks (pointsIn coords)
-  slices-accepted = accepted ks (pointsIn coords) (handles-passed-knots Control coords true ks p)
-
   pub slices-found : (t : Float) (nd : ℕ) → sliceOrders coords ks t nd ≡ ordersOf plain (found (sliceShape coords ks)) (sliceShape coords ks) t nd
-  slices-found t nd = sym (right-count coords ks t nd (slices-accepted .sound .long))
+  slices-found t nd = sym (right-count coords ks t nd (slices-accepted coords ks p .sound .long))

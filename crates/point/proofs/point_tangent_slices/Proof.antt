@@ -5,8 +5,9 @@ use denote.Ref.{now}
 use lib.Dec.{T}
 use Rattle.refusal.proofs.Rows.{number-of}
 use Rattle.shape.specs.Offered.{inSlices}
+use Rattle.shape.proofs.Handles.{slices-accepted}
 use Rattle.shape.proofs.Sound.{slices-sound}
-use Rattle.point.proofs.Answered.{tangent-refused, tangent-answered, slices-accepted, slices-found}
+use Rattle.point.proofs.Answered.{tangent-refused, tangent-answered, slices-found}
 use Rattle.point.proofs.Promised.{tangent-promised, refused-tangent}
 use Rattle.point.proofs.Typed.{typed-slices}
 use Rattle.point.proofs.point_tangent_slices.Statement.{statement}

@@ -7,8 +7,9 @@ use Rattle.meaning.specs.Scalar.{plain}
 use Rattle.meaning.specs.Table.{at1}
 use Rattle.refusal.proofs.Rows.{number-of}
 use Rattle.shape.specs.Offered.{inSlices}
+use Rattle.shape.proofs.Handles.{slices-accepted}
 use Rattle.shape.proofs.Sound.{slices-sound}
-use Rattle.point.proofs.Answered.{slices-accepted, slices-found}
+use Rattle.point.proofs.Answered.{slices-found}
 use Rattle.point.proofs.Typed.{typed-slices}
 use Rattle.points.proofs.Answers.{call-fits, points-refused, call-refused, points-answered, refused-points, points-promised, asked-as}
 use Rattle.points.proofs.evaluate_many_slices.Statement.{statement}

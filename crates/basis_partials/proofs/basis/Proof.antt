@@ -1,12 +1,12 @@
 -- `basis_partials::basis` meets its contract.
+use native.Mathlib.Omega.{arith}
 use Rattle.partials.specs.Dual.{dual}
 use Rattle.basis.proofs.Laws.{derivatives-none, derivatives-of}
-use borrow.Author.Needs.{needs}
 use Rattle.basis_partials.proofs.basis.Statement.{statement}
 use Rattle.basis_partials.proofs.basis.Tie as tie
 
 returns : tie.Need-returns
-returns c = derivatives-none dual _ 2 _ _ (search needs) (c .before .before .triangle-of .ensures) (c .before .values-of .ensures)
+returns c = derivatives-none dual _ 2 _ _ (omega arith) (c .before .before .triangle-of .ensures) (c .before .values-of .ensures)
 
 returns-2 : tie.Need-returns-2
 returns-2 c =
@@ -17,4 +17,4 @@ returns-2 c =
 pub basis-spec : {M : Type 1} → statement M
 basis-spec =
     tie.close
-    (tie.spec (search needs) (search needs) returns (search needs) (search needs) (search needs) returns-2)
+    (tie.spec (omega arith) (omega arith) returns (omega arith) (omega arith) (omega arith) returns-2)

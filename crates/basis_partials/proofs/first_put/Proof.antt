@@ -1,5 +1,5 @@
 -- `basis_partials::first_put` meets its contract.
-use borrow.Author.Needs.{needs}
+use native.Mathlib.Omega.{arith}
 use Rattle.basis_partials.proofs.first_put.Statement.{statement}
 use Rattle.basis_partials.proofs.first_put.Tie as tie
 
@@ -8,4 +8,4 @@ returns c = rw (c .mul .ensures, c .before .div .ensures)
 
 pub first-put-spec : {M : Type 1} → statement M
 first-put-spec =
-    tie.close (tie.spec (search needs) (search needs) (search needs) (search needs) returns)
+    tie.close (tie.spec (omega arith) (omega arith) (omega arith) (omega arith) returns)

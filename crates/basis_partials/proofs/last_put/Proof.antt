@@ -1,5 +1,5 @@
 -- `basis_partials::last_put` meets its contract.
-use borrow.Author.Needs.{needs}
+use native.Mathlib.Omega.{arith}
 use Rattle.basis_partials.proofs.last_put.Statement.{statement}
 use Rattle.basis_partials.proofs.last_put.Tie as tie
 
@@ -9,5 +9,5 @@ returns c = rw (c .add .ensures, c .before .mul .ensures, c .before .before .bef
 pub last-put-spec : {M : Type 1} → statement M
 last-put-spec =
     tie.close
-    (tie.spec (search needs) (search needs) (search needs) (search needs) (search needs) (search needs) (search needs)
-    (search needs) (search needs) returns)
+    (tie.spec (omega arith) (omega arith) (omega arith) (omega arith) (omega arith) (omega arith) (omega arith)
+    (omega arith) (omega arith) returns)

@@ -1,7 +1,7 @@
 -- `basis_partials::order_of` meets its contract.
+use native.Mathlib.Omega.{arith}
 use Rattle.partials.specs.Dual.{dual}
 use Rattle.basis.proofs.Laws.{order-of}
-use borrow.Author.Needs.{needs}
 use Rattle.basis_partials.proofs.order_of.Statement.{statement}
 use Rattle.basis_partials.proofs.order_of.Tie as tie
 
@@ -13,4 +13,4 @@ returns c =
 pub order-of-spec : {M : Type 1} → statement M
 order-of-spec =
     tie.close
-    (tie.spec (search needs) (search needs) (search needs) (search needs) returns)
+    (tie.spec (omega arith) (omega arith) (omega arith) (omega arith) returns)

@@ -1,10 +1,10 @@
 -- `basis_partials::triangle_of` meets its contract: each turn of the loop is `sidesTurn`.
+use native.Mathlib.Omega.{arith}
 use Prim.Native.Nat.{_-_}
 use Rattle.partials.specs.Dual.{dual}
 use Rattle.meaning.proofs.For.{At, first, next, last}
 use Rattle.basis.specs.Triangle.{sidesTurn}
 use Rattle.basis.proofs.Laws.{sides-turn, triangle-of}
-use borrow.Author.Needs.{needs}
 use Rattle.basis_partials.proofs.triangle_of.Statement.{statement}
 use Rattle.basis_partials.proofs.triangle_of.Tie as tie
 
@@ -15,13 +15,13 @@ abbrev μ-loop : tie.MeasureT-loop
 μ-loop t w ndu₀ left₀ right₀ j₀ ndu left right j = 4 - j
 
 loop-holds : tie.Need-loop-holds Inv-loop μ-loop
-loop-holds c = first (search needs)
+loop-holds c = first (omega arith)
 
 loop-again : tie.Need-loop-again Inv-loop μ-loop
 loop-again c =
     let upper = c .before .sub2 .ensures in
     let lower = c .before .before .before .sub .ensures in
-    next (c .before .before .before .before .before .before .loop .inv) (search needs)
+    next (c .before .before .before .before .before .before .loop .inv) (omega arith)
     (rw (upper, lower) (sides-turn dual _ 2 _ _ (record { ndu = _; left = _; right = _ }) (rw (upper, lower) at (c .column-of .ensures))))
 
 returns : tie.Need-returns Inv-loop μ-loop
@@ -30,7 +30,7 @@ returns c = triangle-of dual _ 2 _ _ (rw (c .before .before .cst2 .ensures, c .b
 pub triangle-of-spec : {M : Type 1} → statement M
 triangle-of-spec =
     tie.close
-    (tie.spec Inv-loop μ-loop (search needs) (search needs) (search needs) (search needs) loop-holds (search needs)
-    (search needs) (search needs) (search needs) (search needs) (search needs) (search needs) (search needs)
-    (search needs) (search needs) (search needs) (search needs) (search needs) (search needs) (search needs)
+    (tie.spec Inv-loop μ-loop (omega arith) (omega arith) (omega arith) (omega arith) loop-holds (omega arith)
+    (omega arith) (omega arith) (omega arith) (omega arith) (omega arith) (omega arith) (omega arith)
+    (omega arith) (omega arith) (omega arith) (omega arith) (omega arith) (omega arith) (omega arith)
     loop-again returns)

@@ -1,5 +1,5 @@
 -- `basis_straight::cell_of` meets its contract.
-use borrow.Author.Needs.{needs}
+use native.Mathlib.Omega.{arith}
 use Rattle.basis_straight.proofs.cell_of.Statement.{statement}
 use Rattle.basis_straight.proofs.cell_of.Tie as tie
 
@@ -9,4 +9,4 @@ returns c = rw (c .mul2 .ensures, c .before .add2 .ensures, c .before .before .m
 pub cell-of-spec : {M : Type 1} → statement M
 cell-of-spec =
     tie.close
-    (tie.spec (search needs) (search needs) (search needs) (search needs) (search needs) returns)
+    (tie.spec (omega arith) (omega arith) (omega arith) (omega arith) (omega arith) returns)

@@ -1,7 +1,7 @@
 -- `basis_straight::entries_of` meets its contract: one cell, and five sums.
+use native.Mathlib.Omega.{arith}
 use Rattle.partials.specs.Dual.{dual}
 use Rattle.basis_straight.proofs.Written.{entries-made}
-use borrow.Author.Needs.{needs}
 use Rattle.basis_straight.proofs.entries_of.Statement.{statement}
 use Rattle.basis_straight.proofs.entries_of.Tie as tie
 
@@ -28,6 +28,6 @@ returns c =
 pub entries-of-spec : {M : Type 1} → statement M
 entries-of-spec =
     tie.close
-    (tie.spec (search needs) (search needs) (search needs) (search needs) (search needs) (search needs) (search needs)
-    (search needs) (search needs) (search needs) (search needs) (search needs) (search needs) (search needs)
-    (search needs) (search needs) (search needs) (search needs) (search needs) (search needs) returns)
+    (tie.spec (omega arith) (omega arith) (omega arith) (omega arith) (omega arith) (omega arith) (omega arith)
+    (omega arith) (omega arith) (omega arith) (omega arith) (omega arith) (omega arith) (omega arith)
+    (omega arith) (omega arith) (omega arith) (omega arith) (omega arith) (omega arith) returns)

@@ -1,5 +1,5 @@
 -- `basis_straight::function_0` meets its contract.
-use borrow.Author.Needs.{needs}
+use native.Mathlib.Omega.{arith}
 use Rattle.basis_straight.proofs.function_0.Statement.{statement}
 use Rattle.basis_straight.proofs.function_0.Tie as tie
 
@@ -30,5 +30,5 @@ returns c =
 pub function-0-spec : {M : Type 1} → statement M
 function-0-spec =
     tie.close
-    (tie.spec (search needs) (search needs) (search needs) (search needs) (search needs) (search needs) (search needs)
-    (search needs) (search needs) (search needs) returns)
+    (tie.spec (omega arith) (omega arith) (omega arith) (omega arith) (omega arith) (omega arith) (omega arith)
+    (omega arith) (omega arith) (omega arith) returns)

@@ -1,5 +1,5 @@
 -- `basis_straight::function_1` meets its contract.
-use borrow.Author.Needs.{needs}
+use native.Mathlib.Omega.{arith}
 use Rattle.basis_straight.proofs.function_1.Statement.{statement}
 use Rattle.basis_straight.proofs.function_1.Tie as tie
 
@@ -40,6 +40,6 @@ returns c =
 pub function-1-spec : {M : Type 1} → statement M
 function-1-spec =
     tie.close
-    (tie.spec (search needs) (search needs) (search needs) (search needs) (search needs) (search needs) (search needs)
-    (search needs) (search needs) (search needs) (search needs) (search needs) (search needs) (search needs)
-    (search needs) returns)
+    (tie.spec (omega arith) (omega arith) (omega arith) (omega arith) (omega arith) (omega arith) (omega arith)
+    (omega arith) (omega arith) (omega arith) (omega arith) (omega arith) (omega arith) (omega arith)
+    (omega arith) returns)

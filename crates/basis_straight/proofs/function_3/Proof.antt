@@ -1,5 +1,5 @@
 -- `basis_straight::function_3` meets its contract.
-use borrow.Author.Needs.{needs}
+use native.Mathlib.Omega.{arith}
 use Rattle.basis_straight.proofs.function_3.Statement.{statement}
 use Rattle.basis_straight.proofs.function_3.Tie as tie
 
@@ -15,4 +15,4 @@ returns c =
 pub function-3-spec : {M : Type 1} → statement M
 function-3-spec =
     tie.close
-    (tie.spec (search needs) (search needs) (search needs) (search needs) (search needs) (search needs) returns)
+    (tie.spec (omega arith) (omega arith) (omega arith) (omega arith) (omega arith) (omega arith) returns)

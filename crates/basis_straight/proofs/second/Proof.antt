@@ -1,10 +1,10 @@
 -- `basis_straight::second` meets its contract.
+use native.Mathlib.Omega.{arith}
 use mathlib.Core.Path.{_∙_}
 use mathlib.Core.List.{[], _∷_}
 use Rattle.partials.specs.Dual.{dual}
 use Rattle.basis_straight.specs.Second.{function0, function1, function2, function3}
 use Rattle.basis_straight.proofs.Written.{second-are}
-use borrow.Author.Needs.{needs}
 use Rattle.basis_straight.proofs.second.Statement.{statement}
 use Rattle.basis_straight.proofs.second.Tie as tie
 
@@ -25,4 +25,4 @@ returns c =
 pub second-spec : {M : Type 1} → statement M
 second-spec =
     tie.close
-    (tie.spec (search needs) (search needs) (search needs) (search needs) (search needs) returns)
+    (tie.spec (omega arith) (omega arith) (omega arith) (omega arith) (omega arith) returns)

@@ -1,7 +1,7 @@
 -- `basis_straight::values` meets its contract: six cells.
+use native.Mathlib.Omega.{arith}
 use Rattle.partials.specs.Dual.{dual}
 use Rattle.basis_straight.proofs.Written.{values-made}
-use borrow.Author.Needs.{needs}
 use Rattle.basis_straight.proofs.values.Statement.{statement}
 use Rattle.basis_straight.proofs.values.Tie as tie
 
@@ -29,6 +29,6 @@ returns c =
 pub values-spec : {M : Type 1} → statement M
 values-spec =
     tie.close
-    (tie.spec (search needs) (search needs) (search needs) (search needs) (search needs) (search needs) (search needs)
-    (search needs) (search needs) (search needs) (search needs) (search needs) (search needs) (search needs)
-    (search needs) (search needs) (search needs) (search needs) (search needs) (search needs) returns)
+    (tie.spec (omega arith) (omega arith) (omega arith) (omega arith) (omega arith) (omega arith) (omega arith)
+    (omega arith) (omega arith) (omega arith) (omega arith) (omega arith) (omega arith) (omega arith)
+    (omega arith) (omega arith) (omega arith) (omega arith) (omega arith) (omega arith) returns)

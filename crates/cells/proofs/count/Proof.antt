@@ -1,9 +1,9 @@
 -- `cells::count` meets its contract: past the end a byte reads as 0.
+use native.Mathlib.Omega.{arith}
 use Prim.Native.Nat.{ℕ, min}
 use mathlib.Core.Path.{sym, ap, _∙_}
 use lib.ListN.{List·getD-eq-default}
 use denote.Ref.{now}
-use borrow.Author.Needs.{needs}
 use Rattle.cells.proofs.count.Statement.{statement}
 use Rattle.cells.proofs.count.Tie as tie
 
@@ -19,4 +19,4 @@ returns-2 c =
 pub count-spec : {M : Type 1} → statement M
 count-spec =
     tie.close
-    (tie.spec (search needs) returns (search needs) (search needs) (search needs) returns-2)
+    (tie.spec (omega arith) returns (omega arith) (omega arith) (omega arith) returns-2)

@@ -1,9 +1,9 @@
 -- `cells::get` meets its contract: a case for a cell that there is not, and one for a cell that there is.
+use native.Mathlib.Omega.{arith}
 use mathlib.Core.Path.{sym, _∙_}
 use borrow.Author.Tests.{not-true, not-false}
 use Rattle.cells.specs.Cell.{readAt}
 use Rattle.cells.proofs.Cells.{there}
-use borrow.Author.Needs.{needs}
 use Rattle.cells.proofs.get.Statement.{statement}
 use Rattle.cells.proofs.get.Tie as tie
 
@@ -21,4 +21,4 @@ unfolding readAt
 returns-2 c = rw (sym (c .before .before .has-cell .ensures) ∙ not-false _ (c .before .if1 .left)) (c .get-cell .ensures)
 
 pub get-spec : {M : Type 1} → statement M
-get-spec = tie.close (tie.spec (search needs) (search needs) returns get-cell-requires returns-2)
+get-spec = tie.close (tie.spec (omega arith) (omega arith) returns get-cell-requires returns-2)

@@ -8,7 +8,6 @@ use Rattle.cells.specs.Cell.{cellAt}
 use Rattle.cells.proofs.Values.{value-same}
 use Rattle.cells.proofs.Cells.{lent-at}
 use lib.Ieee.{nan}
-use borrow.Author.Needs.{needs}
 use Rattle.cells.proofs.get_cell.Statement.{statement}
 use Rattle.cells.proofs.get_cell.Tie as tie
 
@@ -25,5 +24,5 @@ returns c =
 pub get-cell-spec : {M : Type 1} → statement M
 get-cell-spec =
     tie.close
-    (tie.spec (search needs) (search needs) (search needs) (search needs) (search needs) (search needs) (search needs) (search needs)
-    (search needs) (search needs) (search needs) (search needs) returns)
+    (tie.spec (omega arith) (omega arith) (omega arith) (omega arith) (omega arith) (omega arith) (omega arith) (omega arith)
+    (omega arith) (omega arith) (omega arith) (omega arith) returns)

@@ -3,7 +3,6 @@ use Prim.Native.Nat.{_+_}
 use native.Mathlib.Nat.{mul-le-mul-right}
 use native.Mathlib.Omega.{arith}
 use borrow.Author.Tests.{le-leb, lt-leb, lt-ltb, le-ltb}
-use borrow.Author.Needs.{needs}
 use Rattle.cells.proofs.has_cell.Statement.{statement}
 use Rattle.cells.proofs.has_cell.Tie as tie
 
@@ -32,4 +31,4 @@ returns-4 c = rw (le-leb _ _ (c .before .before .if1 .left), le-leb _ _ (c .befo
 pub has-cell-spec : {M : Type 1} → statement M
 has-cell-spec =
     tie.close
-    (tie.spec returns returns-2 returns-3 (search needs) mul-result (search needs) add-result-3 returns-4)
+    (tie.spec returns returns-2 returns-3 (omega arith) mul-result (omega arith) add-result-3 returns-4)

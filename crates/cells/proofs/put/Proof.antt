@@ -1,9 +1,9 @@
 -- `cells::put` meets its contract: a case for a cell that there is not, and one for a cell that there is.
+use native.Mathlib.Omega.{arith}
 use mathlib.Core.Path.{sym, _∙_}
 use borrow.Author.Tests.{not-true, not-false}
 use Rattle.cells.specs.Cell.{doublesWith, countsWith}
 use Rattle.cells.proofs.Cells.{there}
-use borrow.Author.Needs.{needs}
 use Rattle.cells.proofs.put.Statement.{statement}
 use Rattle.cells.proofs.put.Tie as tie
 
@@ -26,4 +26,4 @@ returns-2 c =
     (rw yes (call .put-cell .ensures .0), rw yes (call .put-cell .ensures .1))
 
 pub put-spec : {M : Type 1} → statement M
-put-spec = tie.close (tie.spec (search needs) returns put-cell-requires (search needs) (search needs) returns-2)
+put-spec = tie.close (tie.spec (omega arith) returns put-cell-requires (omega arith) (omega arith) returns-2)

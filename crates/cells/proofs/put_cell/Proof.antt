@@ -1,4 +1,5 @@
 -- `cells::put_cell` meets its contract: the part that comes back is the cell.
+use native.Mathlib.Omega.{arith}
 use mathlib.Core.Path.{ap}
 use Prim.Native.Nat.{ℕ, _+_, _*_}
 use lib.ListN.{set}
@@ -18,5 +19,5 @@ returns c =
 
 pub put-cell-spec : {M : Type 1} → statement M
 put-cell-spec = tie.close
-    (tie.spec (search needs) (search needs) (search needs) (search needs) (search needs) (search needs) (search needs) (search needs)
-    (search needs) (search needs) (search needs) (search needs) (search needs) (search needs) returns)
+    (tie.spec (omega arith) (omega arith) (omega arith) (omega arith) (omega arith) (omega arith) (omega arith) (omega arith)
+    (omega arith) (omega arith) (omega arith) (omega arith) (omega arith) (search needs) returns)

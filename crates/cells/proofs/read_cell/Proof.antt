@@ -1,4 +1,5 @@
 -- `cells::read_cell` meets its contract: the loop copies one partial in each turn.
+use native.Mathlib.Omega.{arith}
 use Prim.Native.Nat.{suc, _-_}
 use mathlib.Core.Path.{_≡_, ap}
 use mathlib.Core.List.{List}
@@ -19,19 +20,19 @@ abbrev μ-loop : tie.MeasureT-loop
 μ-loop t n v g₀ j₀ g j = n - j
 
 loop-holds : tie.Need-loop-holds Inv-loop μ-loop
-loop-holds c = (first (search needs), search needs)
+loop-holds c = (first (omega arith), omega arith)
 
 loop-again : tie.Need-loop-again Inv-loop μ-loop
-loop-again c = (next (c .before .before .loop .inv .0) (search needs) (rw (add-one (c .before .before .loop .j))), search needs)
+loop-again c = (next (c .before .before .loop .inv .0) (omega arith) (rw (add-one (c .before .before .loop .j))), search needs)
 
 returns : tie.Need-returns Inv-loop μ-loop
 unfolding valueOf partials
 returns c =
     let a = c .before .before .before .args in
-    ap (λ (g : List Float). record { v = getD (a .t .now) 0 nan; g = g; n = a .n }) (last (c .before .loop .inv .0) (search needs))
+    ap (λ (g : List Float). record { v = getD (a .t .now) 0 nan; g = g; n = a .n }) (last (c .before .loop .inv .0) (omega arith))
 
 pub read-cell-spec : {M : Type 1} → statement M
 read-cell-spec =
     tie.close
-    (tie.spec Inv-loop μ-loop (search needs) loop-holds (search needs) (search needs) (search needs) (search needs)
-    (search needs) (search needs) (search needs) loop-again returns)
+    (tie.spec Inv-loop μ-loop (omega arith) loop-holds (omega arith) (omega arith) (omega arith) (omega arith)
+    (omega arith) (omega arith) (omega arith) loop-again returns)

@@ -13,7 +13,6 @@ use Rattle.meaning.specs.Scalar.{zero64}
 use Rattle.meaning.proofs.Filling.{Filled, empty, filled}
 use Rattle.cells.specs.Cell.{headed}
 use Rattle.cells.proofs.Cells.{cell-filled}
-use borrow.Author.Needs.{needs}
 use Rattle.cells.proofs.write_cell.Statement.{statement}
 use Rattle.cells.proofs.write_cell.Tie as tie
 
@@ -33,25 +32,25 @@ loop-holds : tie.Need-loop-holds Inv-loop μ-loop Inv-loop2 μ-loop2
 loop-holds c =
     let b = c .before .before .before .before in
     let e = getD-set-same (b .args .t .now) 0 (b .args .d .v) nan (omega (arith, b .pre)) in
-    (filled {l = b .args .t .now} (empty (b .pre)) (omega arith) (sym e), search needs)
+    (filled {l = b .args .t .now} (empty (b .pre)) (omega arith) (sym e), omega arith)
 
 loop-again : tie.Need-loop-again Inv-loop μ-loop Inv-loop2 μ-loop2
 loop-again c =
     let l = c .before .loop in
     let n = c .before .before .counted2 .ensures .1 in
-    (filled (l .inv .0) (omega (arith, c .loop-test .taken, n)) (rw (add-one (l .j)) refl), search needs)
+    (filled (l .inv .0) (omega (arith, c .loop-test .taken, n)) (rw (add-one (l .j)) refl), omega arith)
 
 loop2-holds : tie.Need-loop2-holds Inv-loop μ-loop Inv-loop2 μ-loop2
 loop2-holds c =
     let l = c .before .loop in
     let n = c .before .before .counted2 .ensures .1 in
-    (record { long = l .inv .0 .long; high = omega (arith, n); same = λ i h. sym (rw (lt-ltb i _ h) refl) }, search needs)
+    (record { long = l .inv .0 .long; high = omega (arith, n); same = λ i h. sym (rw (lt-ltb i _ h) refl) }, omega arith)
 
 loop2-again : tie.Need-loop2-again Inv-loop μ-loop Inv-loop2 μ-loop2
 loop2-again c =
     let l = c .before .loop2 in
     let n = c .before .before .before .before .counted2 .result in
-    (filled (l .inv .0) (omega (arith, c .loop2-test .taken)) (sym (rw (le-ltb (l .j + 1) (n + 1) (omega (arith, l .inv .1))) refl)), search needs)
+    (filled (l .inv .0) (omega (arith, c .loop2-test .taken)) (sym (rw (le-ltb (l .j + 1) (n + 1) (omega (arith, l .inv .1))) refl)), omega arith)
 
 returns : tie.Need-returns Inv-loop μ-loop Inv-loop2 μ-loop2
 returns c =
@@ -67,6 +66,6 @@ returns c =
 pub write-cell-spec : {M : Type 1} → statement M
 write-cell-spec =
     tie.close
-    (tie.spec Inv-loop μ-loop Inv-loop2 μ-loop2 (search needs) (search needs) (search needs) loop-holds (search needs) (search needs) (search needs)
-    (search needs) (search needs) (search needs) (search needs) loop-again loop2-holds (search needs) (search needs) (search needs) (search needs)
-    (search needs) loop2-again (search needs) returns)
+    (tie.spec Inv-loop μ-loop Inv-loop2 μ-loop2 (omega arith) (omega arith) (omega arith) loop-holds (omega arith) (omega arith) (omega arith)
+    (omega arith) (omega arith) (omega arith) (omega arith) loop-again loop2-holds (omega arith) (omega arith) (omega arith) (omega arith)
+    (omega arith) loop2-again (omega arith) returns)

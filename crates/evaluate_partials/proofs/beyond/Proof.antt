@@ -1,11 +1,11 @@
 -- `evaluate_partials::beyond` meets its contract.
+use native.Mathlib.Omega.{arith}
 use mathlib.Core.Path.{ap, _∙_}
 use mathlib.Core.List.{List}
 use Rattle.partials.specs.declared.Dv.{Dv}
 use Rattle.partials.specs.Dual.{dual}
 use Rattle.evaluate.specs.Piece.{ofFour, onWindow}
 use Rattle.evaluate.proofs.Places.{straight-by}
-use borrow.Author.Needs.{needs}
 use Rattle.evaluate_partials.proofs.beyond.Statement.{statement}
 use Rattle.evaluate_partials.proofs.beyond.Tie as tie
 
@@ -25,5 +25,5 @@ returns c =
 pub beyond-spec : {M : Type 1} → statement M
 beyond-spec =
     tie.close
-    (tie.spec (search needs) (search needs) (search needs) (search needs) (search needs) (search needs) (search needs)
-    (search needs) returns)
+    (tie.spec (omega arith) (omega arith) (omega arith) (omega arith) (omega arith) (omega arith) (omega arith)
+    (omega arith) returns)

@@ -1,5 +1,5 @@
 -- `evaluate_partials::combine` meets its contract.
-use borrow.Author.Needs.{needs}
+use native.Mathlib.Omega.{arith}
 use Rattle.evaluate_partials.proofs.combine.Statement.{statement}
 use Rattle.evaluate_partials.proofs.combine.Tie as tie
 
@@ -7,4 +7,4 @@ returns : tie.Need-returns
 returns c = rw (c .weigh2 .ensures, c .before .weigh .ensures)
 
 pub combine-spec : {M : Type 1} → statement M
-combine-spec = tie.close (tie.spec (search needs) (search needs) returns)
+combine-spec = tie.close (tie.spec (omega arith) (omega arith) returns)

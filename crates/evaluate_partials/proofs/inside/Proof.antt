@@ -1,7 +1,7 @@
 -- `evaluate_partials::inside` meets its contract.
+use native.Mathlib.Omega.{arith}
 use mathlib.Core.Path.{_∙_}
 use Rattle.evaluate.specs.Piece.{onWindow}
-use borrow.Author.Needs.{needs}
 use Rattle.evaluate_partials.proofs.inside.Statement.{statement}
 use Rattle.evaluate_partials.proofs.inside.Tie as tie
 
@@ -10,4 +10,4 @@ unfolding onWindow
 returns c = c .combine .ensures ∙ rw (c .before .values .ensures)
 
 pub inside-spec : {M : Type 1} → statement M
-inside-spec = tie.close (tie.spec (search needs) (search needs) returns)
+inside-spec = tie.close (tie.spec (omega arith) (omega arith) returns)

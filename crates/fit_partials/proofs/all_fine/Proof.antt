@@ -8,7 +8,6 @@ use Rattle.meaning.specs.Search.{every}
 use Rattle.meaning.proofs.Every.{every-none, every-next}
 use Rattle.partials.specs.Dual.{fineDv, dual}
 use Rattle.solve.proofs.Stored.{fine-each}
-use borrow.Author.Needs.{needs}
 use Rattle.fit_partials.proofs.all_fine.Statement.{statement}
 use Rattle.fit_partials.proofs.all_fine.Tie as tie
 
@@ -19,23 +18,23 @@ abbrev μ-loop : tie.MeasureT-loop
 μ-loop k fine₀ j₀ fine j = 18 - j
 
 loop-holds : tie.Need-loop-holds Inv-loop μ-loop
-loop-holds c = (every-none _, search needs)
+loop-holds c = (every-none _, omega arith)
 
 loop-again : tie.Need-loop-again Inv-loop μ-loop
 loop-again c =
     let l = c .before .before .before .before .loop in
-    (every-next _ (l .j) (l .inv .0) (c .before .is-fine .ensures) (c .both .ensures), search needs)
+    (every-next _ (l .j) (l .inv .0) (c .before .is-fine .ensures) (c .both .ensures), omega arith)
 
 returns : tie.Need-returns Inv-loop μ-loop
 returns c =
     let l = c .before .loop in
     let s = c .before .before in
-    let long : length (s .args .t1) ≡ 18 = search needs in
+    let long : length (s .args .t1) ≡ 18 = omega arith in
     let e : l .j ≡ length (s .args .t1) = omega (arith, long, l .inv .1) in
     rw e at (l .inv .0) ∙ sym (fine-each dual (s .args .t1))
 
 pub all-fine-spec : {M : Type 1} → statement M
 all-fine-spec =
     tie.close
-    (tie.spec Inv-loop μ-loop loop-holds (search needs) (search needs) (search needs) (search needs) (search needs)
-    (search needs) loop-again returns)
+    (tie.spec Inv-loop μ-loop loop-holds (omega arith) (omega arith) (omega arith) (omega arith) (omega arith)
+    (omega arith) loop-again returns)

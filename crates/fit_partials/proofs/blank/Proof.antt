@@ -9,7 +9,6 @@ use Rattle.cells.specs.Normal.{Normal}
 use Rattle.fit_partials.specs.Stored.{Laid}
 use Rattle.fit_partials.proofs.Tidy.{zero-normal}
 use Rattle.fit_partials.proofs.Laid.{room-there, room-part, laid-none, laid-one, laid-join}
-use borrow.Author.Needs.{needs}
 use Rattle.fit_partials.proofs.blank.Statement.{statement}
 use Rattle.fit_partials.proofs.blank.Tie as tie
 
@@ -20,7 +19,7 @@ abbrev μ-loop : tie.MeasureT-loop
 μ-loop w₀ ns₀ c at n zero k₀ w ns k = n - k
 
 loop-holds : tie.Need-loop-holds Inv-loop μ-loop
-loop-holds c = (laid-none _ _ _ _ _, search needs)
+loop-holds c = (laid-none _ _ _ _ _, omega arith)
 
 loop-again : tie.Need-loop-again Inv-loop μ-loop
 loop-again c =
@@ -34,7 +33,7 @@ loop-again c =
     let d = zero .cst .result in
     let one = laid-one (a .c) _ _ (a .at + l .k) d (room-there (a .c) (a .at + l .k) _ _ r)
     (subst (Normal (a .c)) (sym (zero .cst .ensures)) (zero-normal (a .c) (r .narrow))) (put .put .ensures .0) (put .put .ensures .1) in
-    (laid-join (a .c) (a .at) (l .k) 1 (λ j. cstDv zero64) (λ j. d) (l .inv .0) one (λ j h. zero .cst .ensures), search needs)
+    (laid-join (a .c) (a .at) (l .k) 1 (λ j. cstDv zero64) (λ j. d) (l .inv .0) one (λ j h. zero .cst .ensures), omega arith)
 
 returns : tie.Need-returns Inv-loop μ-loop
 returns c =
@@ -46,5 +45,5 @@ returns c =
 pub blank-spec : {M : Type 1} → statement M
 blank-spec =
     tie.close
-    (tie.spec Inv-loop μ-loop (search needs) loop-holds (search needs) (search needs) (search needs) (search needs) loop-again (search needs)
-    (search needs) returns)
+    (tie.spec Inv-loop μ-loop (omega arith) loop-holds (omega arith) (omega arith) (omega arith) (omega arith) loop-again (omega arith)
+    (omega arith) returns)

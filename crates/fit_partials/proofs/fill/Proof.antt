@@ -15,7 +15,6 @@ use Rattle.fit_partials.specs.Stored.{Laid, foundFitRow, foundFitRows}
 use Rattle.fit_partials.proofs.Numbers.{window-tidy}
 use Rattle.fit_partials.proofs.Laid.{room-part, laid-start, laid-row}
 use Rattle.fit_partials.proofs.Rows.{found-shaped, found-verdict, row-found}
-use borrow.Author.Needs.{needs}
 use Rattle.fit_partials.proofs.fill.Statement.{statement}
 use Rattle.fit_partials.proofs.fill.Tie as tie
 
@@ -29,7 +28,7 @@ abbrev μ-loop : tie.MeasureT-loop
 μ-loop w₀ ns₀ c u q n k p fine₀ m r₀ w ns fine r = n + 2 - r
 
 loop-holds : tie.Need-loop-holds Inv-loop μ-loop
-loop-holds c = (laid-start _ _ _ _ _, every-none _, search needs)
+loop-holds c = (laid-start _ _ _ _ _, every-none _, omega arith)
 
 station-requires : tie.Need-station-requires Inv-loop μ-loop
 station-requires c κs = let p = c .before .before .before .before .before .pre .0 in (p .0, p .1, c .loop-test .taken)
@@ -99,7 +98,7 @@ loop-again c =
     (ap (at1 dual (a .t6)) (station .0)) (s .pre .1) (call .system-row .ensures) in (
       laid-row (a .c) (a .n + 2) (a .n + 2 + 2) (l .r) _ (found-shaped _ _ _ _ _) t (l .inv .0) (row .0),
       every-next _ (l .r) (l .inv .1) (row .1) (c .both .ensures),
-      search needs,
+      omega arith,
     )
 
 returns : tie.Need-returns Inv-loop μ-loop
@@ -112,8 +111,8 @@ returns c =
 pub fill-spec : {M : Type 1} → statement M
 fill-spec =
     tie.close
-    (tie.spec Inv-loop μ-loop (search needs) loop-holds station-requires (search needs) array-copy-out-t (search needs) (search needs)
-    (search needs) (search needs) array-copy-out-t23 (search needs) (search needs) array-copy-out-t32
-    (search needs) (search needs) array-copy-out-t37 (search needs) (search needs) array-copy-out-t42
-    (search needs) (search needs) array-copy-out-t47 (search needs) (search needs) array-copy-out-t52
-    system-row-requires (search needs) (search needs) (search needs) loop-again (search needs) (search needs) returns)
+    (tie.spec Inv-loop μ-loop (omega arith) loop-holds station-requires (omega arith) array-copy-out-t (omega arith) (omega arith)
+    (omega arith) (omega arith) array-copy-out-t23 (omega arith) (omega arith) array-copy-out-t32
+    (omega arith) (omega arith) array-copy-out-t37 (omega arith) (omega arith) array-copy-out-t42
+    (omega arith) (omega arith) array-copy-out-t47 (omega arith) (omega arith) array-copy-out-t52
+    system-row-requires (omega arith) (omega arith) (omega arith) loop-again (omega arith) (omega arith) returns)

@@ -5,7 +5,6 @@ use native.Mathlib.Omega.{arith}
 use Rattle.plane_partials.specs.View.{viewD}
 use Rattle.fit_partials.proofs.Laid.{room-part}
 use Rattle.fit_partials.proofs.Rows.{row-stored}
-use borrow.Author.Needs.{needs}
 use Rattle.fit_partials.proofs.fill_row.Statement.{statement}
 use Rattle.fit_partials.proofs.fill_row.Tie as tie
 
@@ -73,5 +72,5 @@ returns c =
 pub fill-row-spec : {M : Type 1} → statement M
 fill-row-spec =
     tie.close
-    (tie.spec (search needs) (search needs) blank-requires (search needs) store-four-requires (search needs) (search needs) blank-requires-2
-    (search needs) store-sides-requires (search needs) (search needs) (search needs) returns)
+    (tie.spec (omega arith) (omega arith) blank-requires (omega arith) store-four-requires (omega arith) (omega arith) blank-requires-2
+    (omega arith) store-sides-requires (omega arith) (omega arith) (omega arith) returns)

@@ -3,7 +3,6 @@ use Prim.Native.Nat.{_+_, _*_, _≤_, _/_}
 use native.Mathlib.Nat.{mul-le-mul-right}
 use native.Mathlib.Omega.{arith}
 use borrow.Author.Tests.{le-leb, lt-leb}
-use borrow.Author.Needs.{needs}
 use Rattle.fit_partials.proofs.has_room.Statement.{statement}
 use Rattle.fit_partials.proofs.has_room.Tie as tie
 
@@ -65,5 +64,5 @@ mul-result c =
 pub has-room-spec : {M : Type 1} → statement M
 has-room-spec =
     tie.close
-    (tie.spec returns returns-2 returns-3 returns-4 (search needs) (search needs) (search needs) mul-cells returns-5
-    (search needs) mul-result returns-6)
+    (tie.spec returns returns-2 returns-3 returns-4 (omega arith) (omega arith) (omega arith) mul-cells returns-5
+    (omega arith) mul-result returns-6)

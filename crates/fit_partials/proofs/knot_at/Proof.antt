@@ -1,7 +1,7 @@
 -- `fit_partials::knot_at` meets its contract: each case of the definition.
+use native.Mathlib.Omega.{arith}
 use borrow.Author.Tests.{lt-ltb, le-ltb}
 use Rattle.fit.specs.Parameters.{knotAt}
-use borrow.Author.Needs.{needs}
 use Rattle.fit_partials.proofs.knot_at.Statement.{statement}
 use Rattle.fit_partials.proofs.knot_at.Tie as tie
 
@@ -26,5 +26,5 @@ returns-4 c =
 pub knot-at-spec : {M : Type 1} → statement M
 knot-at-spec =
     tie.close
-    (tie.spec (search needs) returns (search needs) (search needs) (search needs) (search needs) returns-2
-    (search needs) (search needs) returns-3 (search needs) returns-4)
+    (tie.spec (omega arith) returns (omega arith) (omega arith) (omega arith) (omega arith) returns-2
+    (omega arith) (omega arith) returns-3 (omega arith) returns-4)

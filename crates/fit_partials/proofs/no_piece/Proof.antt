@@ -1,6 +1,6 @@
 -- `fit_partials::no_piece` meets its contract.
+use native.Mathlib.Omega.{arith}
 use mathlib.Core.Path.{_≡_}
-use borrow.Author.Needs.{needs}
 use Rattle.fit_partials.proofs.no_piece.Statement.{statement}
 use Rattle.fit_partials.proofs.no_piece.Tie as tie
 
@@ -10,4 +10,4 @@ returns c = rw (c .cst .ensures)
 pub no-piece-spec : {M : Type 1} → statement M
 no-piece-spec =
     tie.close
-    (tie.spec (search needs) returns)
+    (tie.spec (omega arith) returns)

@@ -7,7 +7,6 @@ use Rattle.meaning.proofs.Filling.{Filled, filled}
 use Rattle.partials.specs.Dual.{dual}
 use Rattle.fit.specs.Parameters.{sumOf, parameterAt}
 use Rattle.fit.proofs.Sums.{sum-none, sum-turn, parameter-inner, parameter-last, parameters-begin}
-use borrow.Author.Needs.{needs}
 use Rattle.fit_partials.proofs.parameters.Statement.{statement}
 use Rattle.fit_partials.proofs.parameters.Tie as tie
 
@@ -21,7 +20,7 @@ abbrev μ-loop : tie.MeasureT-loop
 loop-holds : tie.Need-loop-holds Inv-loop μ-loop
 loop-holds c =
     let zero = c .before .cst .ensures in
-    (search needs, search needs, zero ∙ sum-none dual _, rw zero (parameters-begin dual _ _ 11))
+    (omega arith, omega arith, zero ∙ sum-none dual _, rw zero (parameters-begin dual _ _ 11))
 
 loop-again : tie.Need-loop-again Inv-loop μ-loop
 loop-again c =
@@ -33,7 +32,7 @@ loop-again c =
     let e : l .k + 1 - 1 ≡ l .k = omega arith in
     let b = c .before .before .before .loop-test .taken in
     let new = c .div .ensures ∙ (λ i. dual .over (sum i) (t .total .ensures i)) ∙ parameter-inner dual st (a .n) (l .k) (l .inv .0) b in
-    (search needs, search needs, rw e sum, filled (l .inv .3) (search needs) new)
+    (omega arith, omega arith, rw e sum, filled (l .inv .3) (omega arith) new)
 
 returns : tie.Need-returns Inv-loop μ-loop
 returns c =
@@ -41,11 +40,11 @@ returns c =
     let a = c .before .before .before .before .before .args in
     let e : l .k ≡ a .n - 1 = omega arith in
     let f : a .n - 1 + 1 ≡ a .n = omega arith in
-    rw f at (filled (rw e at (l .inv .3)) (search needs) (c .cst2 .ensures ∙ parameter-last dual (at1 dual (a .t1)) (a .n) (search needs)))
+    rw f at (filled (rw e at (l .inv .3)) (omega arith) (c .cst2 .ensures ∙ parameter-last dual (at1 dual (a .t1)) (a .n) (omega arith)))
 
 pub parameters-spec : {M : Type 1} → statement M
 parameters-spec =
     tie.close
-    (tie.spec Inv-loop μ-loop (search needs) (search needs) (search needs) loop-holds (search needs) (search needs)
-    (search needs) (search needs) (search needs) (search needs) (search needs) (search needs) (search needs)
-    loop-again (search needs) (search needs) (search needs) returns)
+    (tie.spec Inv-loop μ-loop (omega arith) (omega arith) (omega arith) loop-holds (omega arith) (omega arith)
+    (omega arith) (omega arith) (omega arith) (omega arith) (omega arith) (omega arith) (omega arith)
+    loop-again (omega arith) (omega arith) (omega arith) returns)

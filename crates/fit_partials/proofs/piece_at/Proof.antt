@@ -1,9 +1,9 @@
 -- `fit_partials::piece_at` meets its contract.
+use native.Mathlib.Omega.{arith}
 use mathlib.Core.Path.{sym, _∙_}
 use borrow.Author.Tests.{not-true, not-false}
 use denote.Ref.{now}
 use Rattle.fit_partials.proofs.Answered.{able-room, able-piece, able-doubles, able-counts, unable-piece, unable-doubles, unable-counts}
-use borrow.Author.Needs.{needs}
 use Rattle.fit_partials.proofs.piece_at.Statement.{statement}
 use Rattle.fit_partials.proofs.piece_at.Tie as tie
 
@@ -44,4 +44,4 @@ returns-2 c =
 pub piece-at-spec : {M : Type 1} → statement M
 piece-at-spec =
     tie.close
-    (tie.spec (search needs) (search needs) returns piece-through-requires (search needs) (search needs) returns-2)
+    (tie.spec (omega arith) (omega arith) returns piece-through-requires (omega arith) (omega arith) returns-2)

@@ -6,7 +6,6 @@ use denote.Ref.{now}
 use Rattle.solve_partials.specs.View as Solved
 use Rattle.fit_partials.proofs.Numbers.{fit-tidy}
 use Rattle.fit_partials.proofs.Answered.{piece-is, doubles-after, counts-after}
-use borrow.Author.Needs.{needs}
 use Rattle.fit_partials.proofs.piece_through.Statement.{statement}
 use Rattle.fit_partials.proofs.piece_through.Tie as tie
 
@@ -57,6 +56,6 @@ returns c =
 pub piece-through-spec : {M : Type 1} → statement M
 piece-through-spec =
     tie.close
-    (tie.spec (search needs) (search needs) (search needs) fill-requires (search needs) (search needs) (search needs)
-    (search needs) (search needs) (search needs) (search needs) (search needs) (search needs) piece-with-requires
-    (search needs) (search needs) returns)
+    (tie.spec (omega arith) (omega arith) (omega arith) fill-requires (omega arith) (omega arith) (omega arith)
+    (omega arith) (omega arith) (omega arith) (omega arith) (omega arith) (omega arith) piece-with-requires
+    (omega arith) (omega arith) returns)

@@ -1,7 +1,7 @@
 -- `fit_partials::piece_with` meets its contract.
+use native.Mathlib.Omega.{arith}
 use mathlib.Core.Path.{_∙_}
 use borrow.Author.Tests.{not-true, not-false}
-use borrow.Author.Needs.{needs}
 use Rattle.fit_partials.proofs.piece_with.Statement.{statement}
 use Rattle.fit_partials.proofs.piece_with.Tie as tie
 
@@ -14,4 +14,4 @@ returns-2 c = let i = c .before .before .before in rw (not-false (i .before .arg
 pub piece-with-spec : {M : Type 1} → statement M
 piece-with-spec =
     tie.close
-    (tie.spec (search needs) returns (search needs) returns-2)
+    (tie.spec (omega arith) returns (omega arith) returns-2)

@@ -5,7 +5,6 @@ use native.Mathlib.Omega.{arith}
 use lib.ListN.{length}
 use denote.Ref.{now}
 use Rattle.fit_partials.proofs.Variables.{variable-at}
-use borrow.Author.Needs.{needs}
 use Rattle.fit_partials.proofs.point.Statement.{statement}
 use Rattle.fit_partials.proofs.point.Tie as tie
 
@@ -20,4 +19,4 @@ returns c =
 pub point-spec : {M : Type 1} → statement M
 point-spec =
     tie.close
-    (tie.spec (search needs) (search needs) (search needs) (search needs) (search needs) returns)
+    (tie.spec (omega arith) (omega arith) (omega arith) (omega arith) (omega arith) returns)

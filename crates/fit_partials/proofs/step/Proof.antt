@@ -1,10 +1,10 @@
 -- `fit_partials::step` meets its contract: the root of the root, in the order of the operations.
+use native.Mathlib.Omega.{arith}
 use mathlib.Core.Path.{ap, _∙_}
 use Rattle.partials.specs.declared.Dv.{Dv}
 use Rattle.partials.specs.Dual.{dual}
 use Rattle.plane.specs.Vector.{Vector, subV, dotV}
 use Rattle.fit.specs.Parameters.{stepAt}
-use borrow.Author.Needs.{needs}
 use Rattle.fit_partials.proofs.step.Statement.{statement}
 use Rattle.fit_partials.proofs.step.Tie as tie
 
@@ -23,5 +23,5 @@ returns c =
 pub step-spec : {M : Type 1} → statement M
 step-spec =
     tie.close
-    (tie.spec (search needs) (search needs) (search needs) (search needs) (search needs) (search needs) (search needs)
-    (search needs) (search needs) returns)
+    (tie.spec (omega arith) (omega arith) (omega arith) (omega arith) (omega arith) (omega arith) (omega arith)
+    (omega arith) (omega arith) returns)

@@ -6,7 +6,6 @@ use Rattle.meaning.specs.Table.{at1}
 use Rattle.partials.specs.Dual.{dual}
 use Rattle.fit_partials.specs.Stored.{Stored}
 use Rattle.fit_partials.proofs.Laid.{room-part, stored-none, stored-join}
-use borrow.Author.Needs.{needs}
 use Rattle.fit_partials.proofs.store_four.Statement.{statement}
 use Rattle.fit_partials.proofs.store_four.Tie as tie
 
@@ -17,7 +16,7 @@ abbrev μ-loop : tie.MeasureT-loop
 μ-loop w₀ ns₀ c at four fine₀ k₀ w ns fine k = 4 - k
 
 loop-holds : tie.Need-loop-holds Inv-loop μ-loop
-loop-holds c = (stored-none _ _ _ _ _, search needs)
+loop-holds c = (stored-none _ _ _ _ _, omega arith)
 
 store-requires : tie.Need-store-requires Inv-loop μ-loop
 store-requires c κs =
@@ -35,7 +34,7 @@ loop-again c =
     let four = at1 dual (a .t5) in (
       stored-join (a .c) (a .at) (l .k) 1 four (λ j. four (l .k)) (l .inv .0) (call .store .ensures)
           (λ j h. let e : l .k ≡ l .k + j = omega arith in ap four e) (c .both .ensures),
-      search needs,
+      omega arith,
     )
 
 returns : tie.Need-returns Inv-loop μ-loop
@@ -47,5 +46,5 @@ returns c =
 pub store-four-spec : {M : Type 1} → statement M
 store-four-spec =
     tie.close
-    (tie.spec Inv-loop μ-loop loop-holds (search needs) (search needs) (search needs) store-requires (search needs) (search needs) (search needs) loop-again
-    (search needs) (search needs) returns)
+    (tie.spec Inv-loop μ-loop loop-holds (omega arith) (omega arith) (omega arith) store-requires (omega arith) (omega arith) (omega arith) loop-again
+    (omega arith) (omega arith) returns)

@@ -5,7 +5,6 @@ use native.Mathlib.Omega.{arith}
 use Rattle.plane_partials.specs.View.{viewD}
 use Rattle.fit_partials.specs.Stored.{Stored, sideOf}
 use Rattle.fit_partials.proofs.Laid.{room-part, stored-as, stored-join}
-use borrow.Author.Needs.{needs}
 use Rattle.fit_partials.proofs.store_sides.Statement.{statement}
 use Rattle.fit_partials.proofs.store_sides.Tie as tie
 
@@ -35,4 +34,4 @@ returns c =
 pub store-sides-spec : {M : Type 1} → statement M
 store-sides-spec =
     tie.close
-    (tie.spec store-requires (search needs) store-requires-2 (search needs) (search needs) (search needs) returns)
+    (tie.spec store-requires (omega arith) store-requires-2 (omega arith) (omega arith) (omega arith) returns)

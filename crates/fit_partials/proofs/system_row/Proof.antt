@@ -11,7 +11,6 @@ use Rattle.fit_partials.proofs.Tidy.{cst-tidy}
 use Rattle.fit_partials.proofs.Numbers.{variables-tidy, four-tidy}
 use Rattle.fit_partials.proofs.Laid.{stored-as}
 use Rattle.fit_partials.proofs.Rows.{of-point, point-numbers, end-numbers}
-use borrow.Author.Needs.{needs}
 use Rattle.fit_partials.proofs.system_row.Statement.{statement}
 use Rattle.fit_partials.proofs.system_row.Tie as tie
 
@@ -84,5 +83,5 @@ returns-2 c =
 pub system-row-spec : {M : Type 1} → statement M
 system-row-spec =
     tie.close
-    (tie.spec (search needs) (search needs) mul-at (search needs) (search needs) sub-point point-requires fill-row-requires (search needs) (search needs)
-    returns (search needs) (search needs) fill-row-requires-2 (search needs) (search needs) returns-2)
+    (tie.spec (omega arith) (omega arith) mul-at (omega arith) (omega arith) sub-point point-requires fill-row-requires (omega arith) (omega arith)
+    returns (omega arith) (omega arith) fill-row-requires-2 (omega arith) (omega arith) returns-2)

@@ -1,10 +1,10 @@
 -- `fit_partials::total` meets its contract: a turn adds one step.
+use native.Mathlib.Omega.{arith}
 use Prim.Native.Nat.{_-_}
 use Rattle.meaning.specs.Table.{at1}
 use Rattle.meaning.proofs.For.{At, first, next, last}
 use Rattle.partials.specs.Dual.{dual}
 use Rattle.fit.specs.Parameters.{sumOf}
-use borrow.Author.Needs.{needs}
 use Rattle.fit_partials.proofs.total.Statement.{statement}
 use Rattle.fit_partials.proofs.total.Tie as tie
 
@@ -15,10 +15,10 @@ abbrev μ-loop : tie.MeasureT-loop
 μ-loop k s sum₀ i₀ sum i = k - i
 
 loop-holds : tie.Need-loop-holds Inv-loop μ-loop
-loop-holds c = first (search needs)
+loop-holds c = first (omega arith)
 
 loop-again : tie.Need-loop-again Inv-loop μ-loop
-loop-again c = next (c .before .before .before .loop .inv) (search needs) (c .add .ensures)
+loop-again c = next (c .before .before .before .loop .inv) (omega arith) (c .add .ensures)
 
 returns : tie.Need-returns Inv-loop μ-loop
 unfolding sumOf
@@ -27,5 +27,5 @@ returns c = rw (c .before .before .cst .ensures) at (last (c .before .loop .inv)
 pub total-spec : {M : Type 1} → statement M
 total-spec =
     tie.close
-    (tie.spec Inv-loop μ-loop (search needs) loop-holds (search needs) (search needs) (search needs) (search needs)
-    (search needs) loop-again returns)
+    (tie.spec Inv-loop μ-loop (omega arith) loop-holds (omega arith) (omega arith) (omega arith) (omega arith)
+    (omega arith) loop-again returns)

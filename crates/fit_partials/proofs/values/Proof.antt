@@ -1,11 +1,11 @@
 -- `fit_partials::values` meets its contract: a turn stores one value.
+use native.Mathlib.Omega.{arith}
 use mathlib.Core.Path.{refl}
 use Prim.Native.Nat.{_-_}
 use lib.Ieee.{nan}
 use Rattle.meaning.specs.Table.{at1}
 use Rattle.meaning.proofs.Filling.{Filled, empty, filled, full}
 use Rattle.partials.specs.Dual.{dual}
-use borrow.Author.Needs.{needs}
 use Rattle.fit_partials.proofs.values.Statement.{statement}
 use Rattle.fit_partials.proofs.values.Tie as tie
 
@@ -19,13 +19,13 @@ loop-holds : tie.Need-loop-holds Inv-loop μ-loop
 loop-holds c = empty refl
 
 loop-again : tie.Need-loop-again Inv-loop μ-loop
-loop-again c = filled (c .before .loop .inv) (search needs) refl
+loop-again c = filled (c .before .loop .inv) (omega arith) refl
 
 returns : tie.Need-returns Inv-loop μ-loop
-returns c = full (c .before .loop .inv) (search needs)
+returns c = full (c .before .loop .inv) (omega arith)
 
 pub values-spec : {M : Type 1} → statement M
 values-spec =
     tie.close
-    (tie.spec Inv-loop μ-loop loop-holds (search needs) (search needs) (search needs) (search needs) (search needs)
-    (search needs) loop-again returns)
+    (tie.spec Inv-loop μ-loop loop-holds (omega arith) (omega arith) (omega arith) (omega arith) (omega arith)
+    (omega arith) loop-again returns)

@@ -8,7 +8,7 @@ use lib.Ieee.{Float, inf, lt, le}
 use Rattle.meaning.specs.Scalar.{plain, zero64}
 use Rattle.meaning.specs.Table.{at1}
 use Rattle.meaning.specs.Number.{sizeOf, clampOf}
-use Rattle.span.specs.Halving.{halvedOf}
+use Rattle.span.specs.Counting.{countedOf}
 use Rattle.knots.proofs.Sorted.{front}
 use Rattle.knots.proofs.Accepted.{Accepted}
 use Rattle.span.proofs.Spans.{accepted-span}
@@ -28,7 +28,7 @@ use Rattle.closest.specs.declared.Progress.{Progress}
 
 module _ (c : Shape Float) (good : Accepted (take (c .n + 4) (c .knots)) (c .n)) where
   -- the span that the code finds is the rules'
-  pub orders-are : (t : Float) (nd : ℕ) → ordersOf plain (halvedOf (c .knots) (c .n)) c t nd ≡ pointOrders c t nd
+  pub orders-are : (t : Float) (nd : ℕ) → ordersOf plain (countedOf (c .knots) (c .n)) c t nd ≡ pointOrders c t nd
   orders-are t nd = same-span plain c t nd (λ x. accepted-span (c .knots) (c .n) x good)
 
   module _ (p : Vector Float) (t : Float) where
@@ -48,7 +48,7 @@ module _ (c : Shape Float) (good : Accepted (take (c .n + 4) (c .knots)) (c .n))
       unfolding distanceAt
       distance-is q = q ∙ ap (λ (w : Vector Float). distanceOf w p) point-is
 
-    pub slope-is : {at : List Float} {w : Vector Float} {f s : Float} → at ≡ ordersOf plain (halvedOf (c .knots) (c .n)) c t 2 → w ≡ subV plain (orderIn at 0) p
+    pub slope-is : {at : List Float} {w : Vector Float} {f s : Float} → at ≡ ordersOf plain (countedOf (c .knots) (c .n)) c t 2 → w ≡ subV plain (orderIn at 0) p
         → f ≡ dotV plain w (orderIn at 1) → s ≡ dotV plain (orderIn at 1) (orderIn at 1)
         → _≡_ {A = Slope} (record { f = f; df = plain .plus (plain .plus s (plain .times (w .x) (at1 plain at 4))) (plain .times (w .y) (at1 plain at 5)) }) (slopeAt c p t)
     unfolding slopeAt

@@ -12,7 +12,7 @@ use Rattle.meaning.proofs.Tests.{by-two}
 use Rattle.basis.specs.Basis.{basisOf}
 use Rattle.knots.specs.Rules.{NotFalling}
 use Rattle.span.specs.Within.{within}
-use Rattle.span.proofs.Spans.{halved-span}
+use Rattle.span.proofs.Spans.{counted-span}
 use Rattle.span.proofs.Tried.{tried-span, not-before, not-past}
 use Rattle.plane.specs.Vector.{Vector}
 use Rattle.shape.specs.Shape.{Shape}
@@ -46,7 +46,7 @@ module _ (c : Shape Float) (four : 4 ≤ c .n) (room : c .n ≤ 66) (up : NotFal
   inside : within (c .knots) (c .n) t i ≡ true → insideOf plain (λ x. i) c t 0 0 ≡ pointIn (ordersOf plain (found c) c t 0)
   unfolding insideOf
   inside h =
-      let e : found c t ≡ i = halved-span (c .knots) (c .n) t four room up ∙ tried-span (c .knots) (c .n) up t i h in
+      let e : found c t ≡ i = counted-span (c .knots) (c .n) t four room up ∙ tried-span (c .knots) (c .n) up t i h in
       let first : insideOf plain (λ x. i) c t 0 0 ≡ insideOf plain (found c) c t 0 0 =
       ap (λ (s : ℕ). insideOf plain (λ x. s) c t 0 0) (sym e) in
       first

@@ -9,8 +9,8 @@ use lib.ListN.{length, take, replicate, length-take}
 use lib.Ieee.{Float, lt}
 use Rattle.meaning.specs.Scalar.{plain, zero64}
 use Rattle.meaning.specs.Table.{at1}
-use Rattle.span.specs.Halving.{halvedOf}
-use Rattle.span.proofs.Spans.{same-halved}
+use Rattle.span.specs.Counting.{countedOf}
+use Rattle.span.proofs.Spans.{same-counted}
 use Rattle.shape.specs.Shape.{Shape, pointsIn, sliceShape}
 use Rattle.shape.proofs.Handles.{given-front, given-at}
 use Rattle.evaluate.specs.Point.{placed, insideOf, beyondOf, ordersOf}
@@ -44,11 +44,11 @@ module _ (coords ks : List Float) (w : Counted coords ks) where
   knots-reach : c .n < length (c .knots)
   knots-reach = let l = ap length knots-front in let m = length-take (c .n + 4) (c .knots) in omega (arith, w .long)
 
-  span-found : (t : Float) → halvedOf ks (c .n) t ≡ found c t
-  span-found t = same-halved ks (c .knots) (c .n) t (λ i h. sym (knot-at i (omega arith))) (w .four) (w .room) (omega (arith, w .long)) knots-reach
+  span-found : (t : Float) → countedOf ks (c .n) t ≡ found c t
+  span-found t = same-counted ks (c .knots) (c .n) t (λ i h. sym (knot-at i (omega arith))) (w .four) (w .room) (omega (arith, w .long)) knots-reach
 
   -- what the code reads of span i: the knots around it, x from a on, y from b on
-  pub slices-on-span : (t : Float) (nd i a b m : ℕ) → i ≡ halvedOf ks (c .n) t → 3 ≤ i → i < c .n → a ≡ 2 * (i - 3) → b ≡ 2 * (i - 3) + 1
+  pub slices-on-span : (t : Float) (nd i a b m : ℕ) → i ≡ countedOf ks (c .n) t → 3 ≤ i → i < c .n → a ≡ 2 * (i - 3) → b ≡ 2 * (i - 3) + 1
       → placed plain m (onSpan plain (around ks i) 3 (fourOf plain coords a 2) (fourOf plain coords b 2) t nd)
       ≡ placed plain m (insideOf plain (found c) c t nd)
   slices-on-span t nd i a b m e g h p q =

@@ -16,6 +16,6 @@ use Rattle.evaluate.specs.Piece.{found}
 abbrev pub pointIn : List Float → Vector Float
 pointIn room = record { x = at1 plain room 0; y = at1 plain room 1 }
 
--- by span i where t lies in it, else by the span that halving finds
+-- by span i where t lies in it, else by the span that the count finds
 unfoldable pub pointNear : Shape Float → Float → ℕ → Vector Float
 pointNear c t i = cond (within (c .knots) (c .n) t i) (insideOf plain (λ x. i) c t 0 0) (pointIn (ordersOf plain (found c) c t 0))

@@ -10,15 +10,15 @@ use lib.Ieee.{Float}
 use Rattle.meaning.specs.Scalar.{Ops, plain, zero64}
 use Rattle.meaning.specs.Loops.{run}
 use Rattle.meaning.specs.Table.{at1}
-use Rattle.span.specs.Halving.{halvedOf}
+use Rattle.span.specs.Counting.{countedOf}
 use Rattle.basis.specs.Basis.{basisOf, derivativesOf}
 use Rattle.plane.specs.Vector.{Vector}
 use Rattle.shape.specs.Shape.{Shape, pointsIn, sliceShape}
 use Rattle.evaluate.specs.Point.{weighted, ordersOf}
 
--- the span of a parameter, as halving finds it
+-- the span of a parameter, as the count finds it
 abbrev pub found : Shape Float → Float → ℕ
-found c = halvedOf (c .knots) (c .n)
+found c = countedOf (c .knots) (c .n)
 
 module _ {A : Type 0} (o : Ops A) where
   -- four numbers from index `at` on, `step` apart

@@ -4,7 +4,7 @@ ghost use mathlib.Core.Path.{_≡_};
 ghost use Prim.Native.Nat.{_+_, _*_, _≤_, _<_};
 ghost use lib.ListN.{length};
 ghost use Rattle.meaning.specs.Scalar.{plain};
-ghost use Rattle.span.specs.Halving.{halvedOf};
+ghost use Rattle.span.specs.Counting.{countedOf};
 ghost use Rattle.plane.specs.View.{view};
 ghost use Rattle.shape.specs.Shape.{sliceShape};
 ghost use Rattle.evaluate.specs.Point.{weighted, placed, insideOf, beyondOf, ordersOf};
@@ -117,7 +117,7 @@ fn inside<'a>(
     nd: usize,
 ) -> [f64; 10]
     requires { ⌜ nd ≤ 4 ⌝ }
-    ensures { λ r. ⌜ r ≡ placed plain (nd + 1) (insideOf plain (halvedOf (now (u .entry)) n)
+    ensures { λ r. ⌜ r ≡ placed plain (nd + 1) (insideOf plain (countedOf (now (u .entry)) n)
         (record { n = n; xs = now (xs .entry); ys = now (ys .entry); knots = now (u .entry) }) t nd) ⌝ }
 {
     let i = span::span(u, n, t);
@@ -137,7 +137,7 @@ fn beyond<'a>(
     nd: usize,
 ) -> [f64; 10]
     requires { ⌜ nd ≤ 4 ⌝ }
-    ensures { λ r. ⌜ r ≡ placed plain (nd + 1) (beyondOf plain (halvedOf (now (u .entry)) n)
+    ensures { λ r. ⌜ r ≡ placed plain (nd + 1) (beyondOf plain (countedOf (now (u .entry)) n)
         (record { n = n; xs = now (xs .entry); ys = now (ys .entry); knots = now (u .entry) }) e t) ⌝ }
 {
     let at = inside(u, n, xs, ys, e, 1);
@@ -154,7 +154,7 @@ pub fn orders<'a>(
     t: f64,
     nd: usize,
 ) -> [f64; 10]
-    ensures { λ r. ⌜ r ≡ ordersOf plain (halvedOf (now (u .entry)) n)
+    ensures { λ r. ⌜ r ≡ ordersOf plain (countedOf (now (u .entry)) n)
         (record { n = n; xs = now (xs .entry); ys = now (ys .entry); knots = now (u .entry) }) t nd ⌝ }
 {
     if n < 4 {

@@ -1,5 +1,5 @@
 -- The parameters of a fit, where they are finite: none is above the next, and one that is not below the next is the same. So its knots do not
--- fall, and the search by halves finds the rules' span among them. Assumes nothing.
+-- fall, and the count finds the rules' span among them. Assumes nothing.
 use mathlib.Core.Path.{_≡_, refl, sym, ap, _∙_, subst}
 use mathlib.Core.Bool.{Bool, true, false, not}
 use mathlib.Core.List.{List}
@@ -18,11 +18,11 @@ use Rattle.meaning.proofs.Order as Order
 use Rattle.meaning.specs.Search.{seek, some}
 use Rattle.knots.specs.Rules.{knot, NotFalling}
 use Rattle.span.specs.Span.{spanOf}
-use Rattle.span.specs.Halving.{halvedOf}
+use Rattle.span.specs.Counting.{countedOf}
 use Rattle.meaning.proofs.Tests.{by-two, no}
 use Rattle.meaning.proofs.Searching.{some-found, none-found}
 use Rattle.meaning.proofs.Order.{finite-no-nan}
-use Rattle.span.proofs.Spans.{halved-span}
+use Rattle.span.proofs.Spans.{counted-span}
 use Rattle.outcome.specs.Outcome.{someWild}
 use Rattle.outcome.proofs.Wild.{each-finite}
 use Rattle.fit.specs.Parameters.{stepAt, sumOf, parameterAt, knotAt, knotsBy, fitParameter, fitKnots}
@@ -229,5 +229,5 @@ module _ (q : List Float) (n : ℕ) (two : 2 ≤ n) (room : n ≤ 64) (tame : so
   pub fit-rise-or-repeat : Rising (fitParameter plain q n) n ⊎ Repeat (fitParameter plain q n) n
   fit-rise-or-repeat = rise-or-repeat (stepAt plain q) (step-plus q) n two (parameters-fine (stepAt plain q) (step-plus q) n two room tame)
 
-  pub fit-span : (t : Float) → halvedOf (fitKnots plain q n) (n + 2) t ≡ spanOf (fitKnots plain q n) (n + 2) t
-  fit-span t = halved-span (fitKnots plain q n) (n + 2) t (omega arith) (omega arith) fit-knots-sorted
+  pub fit-span : (t : Float) → countedOf (fitKnots plain q n) (n + 2) t ≡ spanOf (fitKnots plain q n) (n + 2) t
+  fit-span t = counted-span (fitKnots plain q n) (n + 2) t (omega arith) (omega arith) fit-knots-sorted

@@ -12,7 +12,7 @@ use lib.Ieee.{Float}
 use Rattle.meaning.specs.Scalar.{Ops, plain, zero64, one64}
 use Rattle.meaning.specs.Table.{at1}
 use Rattle.meaning.specs.Search.{every}
-use Rattle.span.specs.Halving.{halvedOf}
+use Rattle.span.specs.Counting.{countedOf}
 use Rattle.meaning.proofs.Filling.{length-listed, nth-listed}
 use Rattle.meaning.proofs.Every.{every-same}
 use Rattle.solve.specs.Rows.{flat, Shaped}
@@ -70,17 +70,17 @@ module _ {A : Type 0} (o : Ops A) (sp : Float → ℕ) (us : List A) where
 module _ (us ps q : List Float) (n : ℕ) where
   pub found-row-at : (r : ℕ) → r < n + 2 → getD (foundFitRows us ps q n) r [] ≡ foundFitRow us ps q n r
   unfolding foundFitRows foundFitRow
-  found-row-at = fit-row-at plain (halvedOf us (n + 2)) us (at1 plain ps) q n
+  found-row-at = fit-row-at plain (countedOf us (n + 2)) us (at1 plain ps) q n
 
   pub found-verdict : every (n + 2) (λ r. allFine plain (foundFitRow us ps q n r)) ≡ allFine plain (flatten (foundFitRows us ps q n))
   unfolding foundFitRows foundFitRow fitRows
   found-verdict =
-      let row = fitRow plain (halvedOf us (n + 2)) us (at1 plain ps) q n in
+      let row = fitRow plain (countedOf us (n + 2)) us (at1 plain ps) q n in
       sym (fine-flat plain 0 (n + 2) row ∙ every-same (n + 2) _ _ (λ r l. ap (λ (k : ℕ). allFine plain (row k)) (zero-add r)))
 
   pub found-shaped : Shaped (n + 2) (n + 2 + 2) (foundFitRows us ps q n)
   unfolding foundFitRows
-  found-shaped = fit-rows-shaped plain (halvedOf us (n + 2)) us (at1 plain ps) q n
+  found-shaped = fit-rows-shaped plain (countedOf us (n + 2)) us (at1 plain ps) q n
 
 -- ---- rows written into a buffer one after the other
 

@@ -15,7 +15,7 @@ use Rattle.meaning.proofs.Filling.{Filled}
 use Rattle.refusal.specs.Refusals.{Row, firstOf, passes}
 use Rattle.refusal.proofs.Rows.{Passed, row-passed}
 use Rattle.span.specs.Span.{spanOf}
-use Rattle.span.specs.Halving.{halvedOf}
+use Rattle.span.specs.Counting.{countedOf}
 use Rattle.solve.specs.declared.Solved.{Solved}
 use Rattle.solve.specs.View.{view}
 use Rattle.solve.specs.Rows.{flat, rowsOf}
@@ -89,14 +89,14 @@ module _ (q p u : List Float) (two : 2 ≤ pointsIn q) (few : pointsIn q ≤ 64)
     abbrev Span : Type 0
     Span = Float → ℕ
 
-    span-is : halvedOf (knotsThrough q) (controlsFor q) ≡ spanOf (knotsThrough q) (controlsFor q)
+    span-is : countedOf (knotsThrough q) (controlsFor q) ≡ spanOf (knotsThrough q) (controlsFor q)
     span-is = λ i t. fit-span q (pointsIn q) two few tame t i
 
     rows-are : foundFitRows u p q (pointsIn q) ≡ rowsThrough q
     unfolding foundFitRows
     rows-are =
-        fit-rows-cong plain (halvedOf u (controlsFor q)) u (at1 plain p) (fitParameter plain q (pointsIn q)) q (pointsIn q) (omega arith) (λ k l. hp .same k l)
-        ∙ ap (λ (us : List Float). fitRows plain (halvedOf us (controlsFor q)) us (fitParameter plain q (pointsIn q)) q (pointsIn q)) knots-are
+        fit-rows-cong plain (countedOf u (controlsFor q)) u (at1 plain p) (fitParameter plain q (pointsIn q)) q (pointsIn q) (omega arith) (λ k l. hp .same k l)
+        ∙ ap (λ (us : List Float). fitRows plain (countedOf us (controlsFor q)) us (fitParameter plain q (pointsIn q)) q (pointsIn q)) knots-are
         ∙ ap (λ (sp : Span). fitRows plain sp (knotsThrough q) (fitParameter plain q (pointsIn q)) q (pointsIn q)) span-is
 
   -- ---- the verdicts of the filling and of the solve, and what is built

@@ -9,7 +9,7 @@ use lib.Ieee.{Float}
 use Rattle.meaning.specs.Scalar.{plain}
 use Rattle.meaning.specs.Table.{at1}
 use Rattle.meaning.specs.Loops.{turns, run}
-use Rattle.span.specs.Halving.{halvedOf}
+use Rattle.span.specs.Counting.{countedOf}
 use Rattle.plane.specs.Vector.{Vector}
 use Rattle.refusal.specs.Refusals.{Row, row}
 use Rattle.solve.specs.declared.Solved.{Solved}
@@ -26,16 +26,16 @@ use Rattle.fit.specs.Fit.{controlsFor, curveThrough, fitFine, Making, ma
 -- the row over the knots us that says: the derivative of order d at t is b
 unfoldable pub foundRow : List Float → ℕ → Float → ℕ → Vector Float → List Float
 unfolding rowOf
-foundRow us m t d b = rowOf plain (halvedOf us m) us m t d b
+foundRow us m t d b = rowOf plain (countedOf us m) us m t d b
 
 -- row r, and all rows, of the system for n points q with the parameters ps
 unfoldable pub foundFitRow : List Float → List Float → List Float → ℕ → ℕ → List Float
 unfolding fitRow
-foundFitRow us ps q n r = fitRow plain (halvedOf us (n + 2)) us (at1 plain ps) q n r
+foundFitRow us ps q n r = fitRow plain (countedOf us (n + 2)) us (at1 plain ps) q n r
 
 unfoldable pub foundFitRows : List Float → List Float → List Float → ℕ → List (List Float)
 unfolding fitRows
-foundFitRows us ps q n = fitRows plain (halvedOf us (n + 2)) us (at1 plain ps) q n
+foundFitRows us ps q n = fitRows plain (countedOf us (n + 2)) us (at1 plain ps) q n
 
 -- a row with four numbers from column `at` on, and with its right sides past m matrix numbers
 unfoldable pub fourPut : List Float → ℕ → List Float → List Float

@@ -16,7 +16,7 @@ use Rattle.meaning.proofs.Tests.{by-two, and-left, and-right}
 use Rattle.meaning.proofs.Filling.{Filled}
 use Rattle.partials.specs.declared.Dv.{Dv}
 use Rattle.partials.specs.Dual.{cstDv, dual}
-use Rattle.span.specs.Halving.{halvedOf}
+use Rattle.span.specs.Counting.{countedOf}
 use Rattle.basis.specs.Basis.{window}
 use Rattle.shape.specs.Shape.{pointsIn}
 use Rattle.evaluate.specs.Piece.{fourOf}
@@ -106,7 +106,7 @@ module _ (q : List Float) (two : 2 ≤ pointsIn q) (few : pointsIn q ≤ 12) (ps
       let z = zero-add (cellsFor (length q)) in
       rw fits (ap (λ (l : List ℕ). replicate (cellsFor (length q)) 0 ++ l) (rw z at (laid .pastBytes)))
 
-  module _ (t : Float) (i : ℕ) (s : Solution Dv) (stored fine : Bool) (hi : i ≡ halvedOf us (n + 2) t)
+  module _ (t : Float) (i : ℕ) (s : Solution Dv) (stored fine : Bool) (hi : i ≡ countedOf us (n + 2) t)
       (hs : s ≡ Solve.fourOf (i - 3) (Solve.solutionIn (n + 2) c w₁ ns₁)) (hf : stored ≡ allFine dual (flatten rows))
       (h : fine ≡ (allFine dual ks && (stored && s .fine))) where
     solved-is : s ≡ Solve.fourOf (i - 3) (solutionOf dual (n + 2) rows)

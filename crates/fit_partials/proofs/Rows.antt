@@ -17,7 +17,7 @@ use Rattle.meaning.proofs.Every.{every-same}
 use Rattle.meaning.proofs.Filling.{nth-listed}
 use Rattle.partials.specs.declared.Dv.{Dv}
 use Rattle.partials.specs.Dual.{cstDv, fineDv, dual}
-use Rattle.span.specs.Halving.{halvedOf}
+use Rattle.span.specs.Counting.{countedOf}
 use Rattle.basis.specs.Basis.{derivativesOf, basisOf, window}
 use Rattle.basis.proofs.Window.{basis-window}
 use Rattle.solve.specs.Rows.{Shaped}
@@ -42,23 +42,23 @@ four-row {A} o sp ks t d {i} {six} {ders} e g h w b =
 
 -- number k of a row
 pub row-number : (ks : List Dv) (us : List Float) (m : ℕ) (t : Dv) (d : ℕ) (b : Vector Dv) (k : ℕ) → k < m + 2
-    → withSides dual m (rowAt dual (halvedOf us m) ks t d) b k ≡ at1 dual (foundRow ks us m t d b) k
+    → withSides dual m (rowAt dual (countedOf us m) ks t d) b k ≡ at1 dual (foundRow ks us m t d b) k
 unfolding foundRow rowOf
-row-number ks us m t d b k h = sym (nth-listed (m + 2) k (withSides dual m (rowAt dual (halvedOf us m) ks t d) b) (dual .off) h)
+row-number ks us m t d b k h = sym (nth-listed (m + 2) k (withSides dual m (rowAt dual (countedOf us m) ks t d) b) (dual .off) h)
 
 module _ (ks : List Dv) (us : List Float) (ps : List Dv) (q : List Float) (n : ℕ) where
   pub found-row-at : (r : ℕ) → r < n + 2 → getD (foundFitRows ks us ps q n) r [] ≡ foundFitRow ks us ps q n r
   unfolding foundFitRows foundFitRow
-  found-row-at = fit-row-at dual (halvedOf us (n + 2)) ks (at1 dual ps) (variablesOf q) n
+  found-row-at = fit-row-at dual (countedOf us (n + 2)) ks (at1 dual ps) (variablesOf q) n
 
   pub found-shaped : Shaped (n + 2) (n + 2 + 2) (foundFitRows ks us ps q n)
   unfolding foundFitRows
-  found-shaped = fit-rows-shaped dual (halvedOf us (n + 2)) ks (at1 dual ps) (variablesOf q) n
+  found-shaped = fit-rows-shaped dual (countedOf us (n + 2)) ks (at1 dual ps) (variablesOf q) n
 
   pub found-verdict : every (n + 2) (λ r. allFine dual (foundFitRow ks us ps q n r)) ≡ allFine dual (flatten (foundFitRows ks us ps q n))
   unfolding foundFitRows foundFitRow fitRows
   found-verdict =
-      let row = fitRow dual (halvedOf us (n + 2)) ks (at1 dual ps) (variablesOf q) n in
+      let row = fitRow dual (countedOf us (n + 2)) ks (at1 dual ps) (variablesOf q) n in
       sym (fine-flat dual 0 (n + 2) row ∙ every-same (n + 2) _ _ (λ r l. ap (λ (k : ℕ). allFine dual (row k)) (zero-add r)))
 
   -- the verdict on a row, index by index
@@ -82,11 +82,11 @@ module _ (ks : List Dv) (us : List Float) (ps : List Dv) (q : List Float) (n : �
     last-row g h e = rw (ne-eqb r 0 g, lt-leb r n h, e)
 
   -- from what the code reads for it: the span of t, and its six knots
-  module _ (r : ℕ) {six : List Dv} {i : ℕ} (t : Dv) (e : i ≡ halvedOf us (n + 2) (t .v)) (low : 3 ≤ i) (high : i ≤ 65) (w : six ≡ window dual ks i) where
+  module _ (r : ℕ) {six : List Dv} {i : ℕ} (t : Dv) (e : i ≡ countedOf us (n + 2) (t .v)) (low : 3 ≤ i) (high : i ≤ 65) (w : six ≡ window dual ks i) where
     span-number : (d : ℕ) (b : Vector Dv) (k : ℕ) → k < n + 2 + 2
         → withSides dual (n + 2) (spread dual (getD (derivativesOf dual six 2 t d) d []) i) b k ≡ at1 dual (foundRow ks us (n + 2) t d b) k
     span-number d b k h =
-        ap (λ (g : ℕ → Dv). withSides dual (n + 2) g b k) (four-row dual (halvedOf us (n + 2)) ks t d e low high w refl)
+        ap (λ (g : ℕ → Dv). withSides dual (n + 2) g b k) (four-row dual (countedOf us (n + 2)) ks t d e low high w refl)
         ∙ row-number ks us (n + 2) t d b k h
 
     pub span-row : at1 dual ps 0 ≡ dual .cst zero64 → at1 dual ps (n - 1) ≡ dual .cst one64 → t ≡ at1 dual ps (stationOf n r) → (k : ℕ) → k < n + 2 + 2
@@ -108,7 +108,7 @@ module _ (ks : List Dv) (us : List Float) (ps : List Dv) (q : List Float) (n : �
 
 -- row r of the system as it is stored, with the verdict on it
 pub row-found : (c n r : ℕ) (ks : List Dv) (us : List Float) (ps : List Dv) (q : List Float) {six : List Dv} {i : ℕ} (t : Dv) {w w′ : List Float} {ns ns′ : List ℕ} {fine : Bool}
-    → r < n + 2 → i ≡ halvedOf us (n + 2) (t .v) → 3 ≤ i → i ≤ 65 → six ≡ window dual ks i → t ≡ at1 dual ps (stationOf n r) → ReadyFit c n ks ps q
+    → r < n + 2 → i ≡ countedOf us (n + 2) (t .v) → 3 ≤ i → i ≤ 65 → six ≡ window dual ks i → t ≡ at1 dual ps (stationOf n r) → ReadyFit c n ks ps q
     → Stored c (r * (n + 2 + 2)) (n + 2 + 2) (spanRow six i t q n r) w ns w′ ns′ fine
     → Laid c (r * (n + 2 + 2)) (n + 2 + 2) (at1 dual (getD (foundFitRows ks us ps q n) r [])) w ns w′ ns′ × (fine ≡ allFine dual (foundFitRow ks us ps q n r))
 row-found c n r ks us ps q {six} {i} t high span low far six-is at ready a =

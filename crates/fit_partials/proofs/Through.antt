@@ -20,10 +20,10 @@ use Rattle.meaning.proofs.Searching.{seek-first}
 use Rattle.meaning.proofs.Filling.{Filled, length-listed, nth-listed}
 use Rattle.partials.specs.declared.Dv.{Dv}
 use Rattle.partials.specs.Dual.{fineDv, cstDv, dual}
-use Rattle.span.specs.Halving.{halvedOf}
+use Rattle.span.specs.Counting.{countedOf}
 use Rattle.knots.specs.Rules.{knot}
 use Rattle.span.specs.Span.{holds, spanOf}
-use Rattle.span.proofs.Spans.{same-halved}
+use Rattle.span.proofs.Spans.{same-counted}
 use Rattle.basis.specs.Basis.{derivativesOf, window}
 use Rattle.basis.proofs.Window.{basis-window}
 use Rattle.plane.specs.Vector.{Vector}
@@ -168,9 +168,9 @@ module _ (q : List Float) (two : 2 ≤ pointsIn q) (few : pointsIn q ≤ 12) (ps
     unfolding knotsBy
     plain-long = length-listed 0 70 (knotAt plain (fitParameter plain q n) n)
 
-    pub span-found : (x : Float) → halvedOf us (n + 2) x ≡ spanThrough q x
+    pub span-found : (x : Float) → countedOf us (n + 2) x ≡ spanThrough q x
     span-found x =
-        same-halved us (knotsThrough q) (n + 2) x (λ i h. value-here i (omega arith)) (omega arith) (omega arith)
+        same-counted us (knotsThrough q) (n + 2) x (λ i h. value-here i (omega arith)) (omega arith) (omega arith)
         (omega (arith, ap length hu, length-listed 0 18 (λ j. at1 dual ks j .v))) (omega (arith, plain-long))
         ∙ fit-span q n two (omega arith) tame x
 
@@ -186,7 +186,7 @@ module _ (q : List Float) (two : 2 ≤ pointsIn q) (few : pointsIn q ≤ 12) (ps
     unfolding foundFitRows
     rows-are =
         let ours = fitParameter dual (variablesOf q) n in
-        fit-rows-cong dual (halvedOf us (n + 2)) ks (at1 dual ps) ours (variablesOf q) n (omega arith) (λ k l. hp .same k l)
+        fit-rows-cong dual (countedOf us (n + 2)) ks (at1 dual ps) ours (variablesOf q) n (omega arith) (λ k l. hp .same k l)
         ∙ ap (λ (sp : Float → ℕ). fitRows dual sp ks ours (variablesOf q) n) (λ i x. span-found x i)
         ∙ rows-same dual (spanThrough q) ks (knotsWith q) (λ x. span-of x .0) (λ x. omega (arith, span-of x .1))
         (λ x. window-same (spanThrough q x) (span-of x .0) (span-of x .1))

@@ -11,7 +11,7 @@ use Rattle.meaning.specs.Table.{at1}
 use Rattle.meaning.specs.Search.{every}
 use Rattle.partials.specs.declared.Dv.{Dv}
 use Rattle.partials.specs.Dual.{fineDv, dual}
-use Rattle.span.specs.Halving.{halvedOf}
+use Rattle.span.specs.Counting.{countedOf}
 use Rattle.plane.specs.Vector.{Vector}
 use Rattle.cells.specs.Cell.{cellAt}
 use Rattle.basis.specs.Basis.{derivativesOf}
@@ -54,16 +54,16 @@ pub record Room (c at n : ℕ) (w : List Float) (ns : List ℕ) : Type 0 where
 -- the row over the knots ks, whose values are us, that says: the derivative of order d at t is b
 unfoldable pub foundRow : List Dv → List Float → ℕ → Dv → ℕ → Vector Dv → List Dv
 unfolding rowOf
-foundRow ks us m t d b = rowOf dual (halvedOf us m) ks m t d b
+foundRow ks us m t d b = rowOf dual (countedOf us m) ks m t d b
 
 -- row r, and all rows, of the system for n points q with the parameters ps
 unfoldable pub foundFitRow : List Dv → List Float → List Dv → List Float → ℕ → ℕ → List Dv
 unfolding fitRow
-foundFitRow ks us ps q n r = fitRow dual (halvedOf us (n + 2)) ks (at1 dual ps) (variablesOf q) n r
+foundFitRow ks us ps q n r = fitRow dual (countedOf us (n + 2)) ks (at1 dual ps) (variablesOf q) n r
 
 unfoldable pub foundFitRows : List Dv → List Float → List Dv → List Float → ℕ → List (List Dv)
 unfolding fitRows
-foundFitRows ks us ps q n = fitRows dual (halvedOf us (n + 2)) ks (at1 dual ps) (variablesOf q) n
+foundFitRows ks us ps q n = fitRows dual (countedOf us (n + 2)) ks (at1 dual ps) (variablesOf q) n
 
 -- whether row r is one of a point, and the point at whose parameter it stands
 abbrev pub ofPoint : ℕ → ℕ → Bool

@@ -1,4 +1,4 @@
--- From the rules of a curve and the numbers found by halving to the answer, for a curve offered in whatever way. Assumes nothing.
+-- From the rules of a curve and the numbers found by the count of knots to the answer, for a curve offered in whatever way. Assumes nothing.
 use mathlib.Core.Path.{_≡_, sym, ap, _∙_}
 use mathlib.Core.Bool.{true}
 use mathlib.Core.List.{List}

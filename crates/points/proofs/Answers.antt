@@ -45,7 +45,7 @@ asked-as ts order {f} {g} e {out} {out′} {refusals} {refusals′} {n} a =
 abbrev alone : Offered → List Float → ℕ → ℕ → List Float → Outcome
 alone who ts order k place = pointAnswer who (at1 plain ts k) order place
 
--- as halving finds its span
+-- as the count finds its span
 abbrev pub foundOrders : Offered → ℕ → Float → List Float
 foundOrders who order t = ordersOf plain (found (who .shape)) (who .shape) t order
 

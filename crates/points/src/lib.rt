@@ -4,7 +4,7 @@ ghost use Prim.Native.Nat.{_+_};
 ghost use lib.ListN.{length, set};
 ghost use Rattle.meaning.specs.Scalar.{plain};
 ghost use Rattle.refusal.specs.Refusals.{firstOf};
-ghost use Rattle.span.specs.Halving.{halvedOf};
+ghost use Rattle.span.specs.Counting.{countedOf};
 ghost use Rattle.shape.specs.Offered.{inSlices};
 ghost use Rattle.curve.specs.Record.{byRecord};
 ghost use Rattle.evaluate.specs.Point.{ordersOf};
@@ -66,7 +66,7 @@ fn answer_each<'a>(
     refusals: &mut [u64],
 )
     requires { ⌜ Fits (length (now ts)) order (now out) (now refusals) ⌝ }
-    ensures { λ _. ⌜ Asked (numbersFor order) (eachOf (λ t. ordersOf plain (halvedOf (now (u .entry)) n)
+    ensures { λ _. ⌜ Asked (numbersFor order) (eachOf (λ t. ordersOf plain (countedOf (now (u .entry)) n)
         (record { n = n; xs = now (xs .entry); ys = now (ys .entry); knots = now (u .entry) }) t order) (now (ts .entry)) order)
         (now (out .entry)) (now (refusals .entry)) (length (now (ts .entry))) (now (out .exit)) (now (refusals .exit)) ⌝ }
 {

@@ -1,9 +1,8 @@
--- The span: halving keeps it between its ends, and among knots that do not fall there is one i, and only one, with knot i ≤ t < knot i+1,
--- which halving finds and `spanOf` is. Only the first n + 1 knots are read. Assumes nothing.
+-- The span: among knots that do not fall there is one i, and only one, with knot i ≤ t < knot i+1, which the count finds and `spanOf` is. Only the
+-- first n + 1 knots are read. Assumes nothing.
 use mathlib.Core.Path.{_≡_, refl, sym, ap, _∙_}
 use mathlib.Core.Bool.{Bool, true, false, cond, true≢false}
 use mathlib.Core.List.{List}
-use mathlib.Core.Logic.{_⊎_, inl, inr}
 use Prim.Native.Nat.{ℕ, zero, suc, _+_, _-_, _≤_, _<_}
 use native.Mathlib.Nat.{le-refl}
 use native.Mathlib.Omega.{arith}
@@ -11,73 +10,40 @@ use borrow.Author.Tests.{ltb-true, ltb-false, le-ltb, lt-leb}
 use lib.Dec.{ltb}
 use lib.ListN.{length, take, List·getD-eq-default}
 use lib.Ieee.{Float, nan, inf, fin, lt, le, isNan}
-use Rattle.meaning.specs.Loops.{spin, rest}
-use Rattle.meaning.proofs.Order.{nan-lt, nan-le, le-nan, lt-le, le-trans, lt-not-le, not-lt-le, not-le-lt, lt-left}
+use Rattle.meaning.proofs.Order.{nan-lt, nan-le, le-nan, lt-le, lt-le-trans, le-trans, lt-not-le, not-lt-le, not-le-lt, lt-left}
 use Rattle.meaning.specs.Search.{seek}
 use Rattle.knots.specs.Rules.{knot, NotFalling}
 use Rattle.span.specs.Span.{holds, spanOf}
-use Rattle.span.specs.Halving.{width, apart, middle, half, narrow, halvedOf}
-use Rattle.span.specs.declared.Ends.{Ends}
+use Rattle.span.specs.Counting.{reached, countedOf}
 use Rattle.meaning.proofs.Tests.{by-two, and-left, and-right, no}
 use Rattle.meaning.proofs.Searching.{seek-is}
 use Rattle.knots.proofs.Sorted.{no-nan, ordered, front}
 use Rattle.knots.proofs.Accepted.{Accepted}
 
--- ---- halving
+-- ---- the count
 
-pub narrow-falls : (ks : List Float) (t : Float) (e : Ends) → apart e ≡ true → width (narrow ks t e) < width e
-unfolding narrow
-narrow-falls ks t e h = by (lt t (knot ks (middle e)))
-  where
-    by : (b : Bool) → width (half b e) < width e
-    by true = omega (arith, ltb-true 1 (width e) h)
-    by false = omega (arith, ltb-true 1 (width e) h)
+-- of the d knots from knot 4 on, t is not below those up to the count's, and below the others
+pub record Counted (ks : List Float) (t : Float) (d k : ℕ) : Type 0 where
+  pub low : 3 ≤ k
+  pub high : k ≤ 3 + d
+  pub under : (j : ℕ) → k < j → j < 4 + d → lt t (knot ks j) ≡ true
+  pub over : (j : ℕ) → 4 ≤ j → j ≤ k → lt t (knot ks j) ≡ false
 
--- what halving from e leaves: two indices in a row, each an end of e or told by its knot
-record Left (ks : List Float) (t : Float) (e r : Ends) : Type 0 where
-  low : e .lo ≤ r .lo
-  high : r .hi ≤ e .hi
-  next : r .hi ≡ r .lo + 1
-  from : (r .lo ≡ e .lo) ⊎ (lt t (knot ks (r .lo)) ≡ false)
-  to : (r .hi ≡ e .hi) ⊎ (lt t (knot ks (r .hi)) ≡ true)
+pub reached-bounds : (ks : List Float) (t : Float) (d : ℕ) → (3 ≤ reached ks t d) × (reached ks t d ≤ 3 + d)
+unfolding reached
+reached-bounds ks t zero = (le-refl 3, le-refl 3)
+reached-bounds ks t (suc d) =
+    let r = reached-bounds ks t d in
+    by-two (lt t (knot ks (4 + d))) (λ h. rw h (omega (arith, r .0), omega (arith, r .1))) (λ h. rw h (omega (arith, r .0), omega (arith, r .1)))
 
-module _ (ks : List Float) (t : Float) where
-  -- what is left of a half is left of the whole
-  of-half : (e r : Ends) → e .lo < e .hi → (b : Bool) → lt t (knot ks (middle e)) ≡ b → Left ks t (half b e) r → Left ks t e r
-  of-half e r h true q l =
-      record {
-        low = l .low;
-        high = omega (arith, l .high);
-        next = l .next;
-        from = l .from;
-        to = elim (l .to) [ inl z ↦ inr (rw z q) | inr z ↦ inr z ];
-      }
-  of-half e r h false q l =
-      record {
-        low = omega (arith, l .low);
-        high = l .high;
-        next = l .next;
-        from = elim (l .from) [ inl z ↦ inr (rw z q) | inr z ↦ inr z ];
-        to = l .to;
-      }
-
-  half-apart : (e : Ends) (b : Bool) → 1 < width e → half b e .lo < half b e .hi
-  half-apart e true h = omega arith
-  half-apart e false h = omega arith
-
-  left : (m : ℕ) (e : Ends) → e .lo < e .hi → width e ≤ m → Left ks t e (spin apart (narrow ks t) m e)
-  unfolding spin narrow
-  left zero e h w = absurd (omega arith)
-  left (suc m) e h w = by (apart e) refl (left m (narrow ks t e))
-    where
-      by : (b : Bool) → apart e ≡ b
-          → (narrow ks t e .lo < narrow ks t e .hi → width (narrow ks t e) ≤ m → Left ks t (narrow ks t e) (spin apart (narrow ks t) m (narrow ks t e)))
-          → Left ks t e (cond b (spin apart (narrow ks t) m (narrow ks t e)) e)
-      by true q more =
-          of-half e _ h (lt t (knot ks (middle e))) refl
-          (more (half-apart e (lt t (knot ks (middle e))) (ltb-true 1 (width e) q)) (omega (arith, narrow-falls ks t e q)))
-      by false q more =
-          record { low = le-refl (e .lo); high = le-refl (e .hi); next = omega (arith, ltb-false 1 (width e) q); from = inl refl; to = inl refl }
+-- one knot more
+pub reached-next : (ks : List Float) (t : Float) (j : ℕ) (b : Bool) → 4 ≤ j → lt t (knot ks j) ≡ b
+    → reached ks t (j + 1 - 4) ≡ cond b (reached ks t (j - 4)) (reached ks t (j - 4) + 1)
+unfolding reached
+reached-next ks t j b h q =
+    let e : j + 1 - 4 ≡ suc (j - 4) = omega arith in
+    let k : 4 + (j - 4) ≡ j = omega arith in
+    rw e (rw (k, q) refl)
 
 -- ---- the one i
 
@@ -88,13 +54,6 @@ pub record Inside (ks : List Float) (n : ℕ) (t : Float) (i : ℕ) : Type 0 whe
   pub under : lt t (knot ks (i + 1)) ≡ true
 
 module _ (ks : List Float) (n : ℕ) (t : Float) where
-  -- what halving between 3 and n leaves
-  abbrev pub whole : Ends
-  whole = rest apart (narrow ks t) width (record { lo = 3; hi = n })
-
-  halves : 4 ≤ n → Left ks t (record { lo = 3; hi = n }) whole
-  halves f = left ks t (n - 3) (record { lo = 3; hi = n }) (omega arith) (le-refl (n - 3))
-
   module _ (up : NotFalling ks n) where
     not-after : (i j : ℕ) → Inside ks n t i → Inside ks n t j → i < j → ⊥
     not-after i j a b h =
@@ -106,15 +65,51 @@ module _ (ks : List Float) (n : ℕ) (t : Float) where
         by-two (ltb i j) (λ h. absurd (not-after i j a b (ltb-true i j h)))
         (λ h. by-two (ltb j i) (λ g. absurd (not-after j i b a (ltb-true j i g))) (λ g. omega (arith, ltb-false i j h, ltb-false j i g)))
 
-    found-inside : 4 ≤ n → lt (knot ks 3) t ≡ true → lt t (knot ks n) ≡ true → Inside ks n t (whole .lo)
+    -- a knot that t is not below comes after no knot that it is below
+    step : (d k : ℕ) → 4 + d < n → Counted ks t d k → (b : Bool) → lt t (knot ks (4 + d)) ≡ b → Counted ks t (suc d) (cond b k (k + 1))
+    step d k h c true q = record {
+      low = c .low;
+      high = omega (arith, c .high);
+      under = λ j g l. by-two (ltb j (4 + d)) (λ z. c .under j g (ltb-true j (4 + d) z))
+          (λ z. let e : j ≡ 4 + d = omega (arith, ltb-false j (4 + d) z) in rw e q);
+      over = c .over;
+    }
+    step d k h c false q =
+        let whole : k ≡ 3 + d = all in record {
+          low = omega (arith, c .low);
+          high = omega arith;
+          under = λ j g l. absurd (omega arith);
+          over = λ j g l. by-two (ltb k j)
+              (λ z. let e : j ≡ 4 + d = omega (arith, ltb-true k j z) in rw e q)
+              (λ z. c .over j g (ltb-false k j z));
+        }
+      where
+        all : k ≡ 3 + d
+        all = by-two (ltb k (3 + d))
+            (λ z.
+            let l = ltb-true k (3 + d) z in
+            let below = lt-le-trans _ _ _ (c .under (3 + d) l (omega arith)) (ordered ks n up (3 + d) (4 + d) (omega arith) (omega arith)) in
+            no (sym q ∙ below))
+            (λ z. omega (arith, c .high, ltb-false k (3 + d) z))
+
+    counts : (d : ℕ) → 4 + d ≤ n → Counted ks t d (reached ks t d)
+    unfolding reached
+    counts zero h = record { low = le-refl 3; high = le-refl 3; under = λ j g l. absurd (omega arith); over = λ j g l. absurd (omega arith) }
+    counts (suc d) h = step d (reached ks t d) (omega arith) (counts d (omega arith)) (lt t (knot ks (4 + d))) refl
+
+    found-inside : 4 ≤ n → lt (knot ks 3) t ≡ true → lt t (knot ks n) ≡ true → Inside ks n t (reached ks t (n - 4))
     found-inside f a b =
-        let l = halves f in
-        let k = no-nan ks n up (whole .lo) (omega (arith, l .high, l .next)) in
+        let i = reached ks t (n - 4) in
+        let c = counts (n - 4) (omega arith) in
+        let high : i < n = omega (arith, c .high) in
+        let k = no-nan ks n up i (omega arith) in
         record {
-          low = l .low;
-          high = omega (arith, l .high, l .next);
-          at = elim (l .from) [ inl z ↦ rw z (lt-le _ _ a) | inr z ↦ not-lt-le _ _ (lt-left _ _ b) k z ];
-          under = rw (← l .next) (elim (l .to) [ inl z ↦ rw z b | inr z ↦ z ]);
+          low = c .low;
+          high = high;
+          at = by-two (ltb 3 i) (λ z. not-lt-le _ _ (lt-left _ _ b) k (c .over i (ltb-true 3 i z) (le-refl i)))
+              (λ z. let e : i ≡ 3 = omega (arith, c .low, ltb-false 3 i z) in rw e (lt-le _ _ a));
+          under = by-two (ltb (i + 1) n) (λ z. c .under (i + 1) (omega arith) (omega (arith, ltb-true (i + 1) n z)))
+              (λ z. let e : i + 1 ≡ n = omega (arith, ltb-false (i + 1) n z) in rw e b);
         }
 
     sought : (i : ℕ) → Inside ks n t i → i ≡ seek 3 (n - 1) (holds ks t)
@@ -133,7 +128,7 @@ module _ (ks : List Float) (n : ℕ) (t : Float) where
     -- there is such an i, and the span is it
     pub span-inside : 4 ≤ n → lt (knot ks 3) t ≡ true → lt t (knot ks n) ≡ true → Inside ks n t (spanOf ks n t)
     unfolding spanOf
-    span-inside f a b = let i = found-inside f a b in rw (lt-not-le _ _ b, lt-not-le _ _ a, ← sought (whole .lo) i) i
+    span-inside f a b = let i = found-inside f a b in rw (lt-not-le _ _ b, lt-not-le _ _ a, ← sought (reached ks t (n - 4)) i) i
 
 -- ---- a NaN
 
@@ -152,11 +147,11 @@ is-nan nan h = refl
 is-nan (inf s) h = no h
 is-nan (fin s m e) h = no h
 
--- below no knot, it moves the lower end to the last
-halves-nan : (ks : List Float) (n : ℕ) → 4 ≤ n → whole ks n nan .lo ≡ n - 1
-halves-nan ks n f =
-    let l = halves ks n nan f in
-    elim (l .to) [ inl z ↦ omega (arith, l .next, z) | inr z ↦ no (sym (nan-lt (knot ks (whole ks n nan .hi))) ∙ z) ]
+-- below no knot, it counts all of them
+reached-nan : (ks : List Float) (d : ℕ) → reached ks nan d ≡ 3 + d
+unfolding reached
+reached-nan ks zero = refl
+reached-nan ks (suc d) = rw (nan-lt (knot ks (4 + d))) (let e = reached-nan ks d in omega arith)
 
 -- ---- the code's answer
 
@@ -171,58 +166,50 @@ reaches ks n up = by-two (ltb n (length ks)) (λ h. ltb-true n (length ks) h) (�
 
 module _ (ks : List Float) (n : ℕ) (t : Float) (f : 4 ≤ n) (r : n ≤ 66) where
   module _ (l : n < length ks) where
-    pub opened : halvedOf ks n t ≡ cond (le (knot ks n) t) (n - 1) (cond (le t (knot ks 3)) 3 (whole ks n t .lo))
-    unfolding halvedOf
+    pub opened : countedOf ks n t ≡ cond (le (knot ks n) t) (n - 1) (cond (le t (knot ks 3)) 3 (reached ks t (n - 4)))
+    unfolding countedOf
     opened = rw (le-ltb n 4 f, le-ltb 66 n r, lt-leb (length ks) n l)
 
-    a-nan : isNan t ≡ true → halvedOf ks n t ≡ spanOf ks n t
+    a-nan : isNan t ≡ true → countedOf ks n t ≡ spanOf ks n t
     a-nan h =
         let e = is-nan t h in
-        opened ∙ rw (e, le-nan (knot ks n), nan-le (knot ks 3), span-nan ks n f) (halves-nan ks n f)
+        opened ∙ rw (e, le-nan (knot ks n), nan-le (knot ks 3), span-nan ks n f, reached-nan ks (n - 4)) (omega arith)
 
   -- for knots that do not fall and any t, a NaN too
-  pub halved-span : NotFalling ks n → halvedOf ks n t ≡ spanOf ks n t
+  pub counted-span : NotFalling ks n → countedOf ks n t ≡ spanOf ks n t
   unfolding spanOf
-  halved-span up =
+  counted-span up =
       let l = reaches ks n up in
       by-two (isNan t) (a-nan l) (λ m. opened l ∙ a-number m (le (knot ks n) t) (le t (knot ks 3)) refl refl)
     where
-      a-number : isNan t ≡ false → (a b : Bool) → le (knot ks n) t ≡ a → le t (knot ks 3) ≡ b → cond a (n - 1) (cond b 3 (whole ks n t .lo)) ≡ spanOf ks n t
+      a-number : isNan t ≡ false → (a b : Bool) → le (knot ks n) t ≡ a → le t (knot ks 3) ≡ b → cond a (n - 1) (cond b 3 (reached ks t (n - 4))) ≡ spanOf ks n t
       a-number m true b p q = rw p
       a-number m false true p q = rw (p, q)
       a-number m false false p q =
           let lower = not-le-lt _ _ m (no-nan ks n up 3 (omega arith)) q in
           let upper = not-le-lt _ _ (no-nan ks n up n (omega arith)) m p in
-          rw (p, q) (sought ks n t up (whole ks n t .lo) (found-inside ks n t up f lower upper))
+          rw (p, q) (sought ks n t up (reached ks t (n - 4)) (found-inside ks n t up f lower upper))
 
 -- ---- two lists with the same first n + 1 knots
 
 module _ (ks ls : List Float) (n : ℕ) (t : Float) (same : (i : ℕ) → i ≤ n → knot ks i ≡ knot ls i) where
-  same-half : (e : Ends) → middle e ≤ n → narrow ks t e ≡ narrow ls t e
-  unfolding narrow
-  same-half e h = ap (λ (x : Float). half (lt t x) e) (same (middle e) h)
+  same-reached : (d : ℕ) → 4 + d ≤ n + 1 → reached ks t d ≡ reached ls t d
+  unfolding reached
+  same-reached zero h = refl
+  same-reached (suc d) h =
+      let e = same (4 + d) (omega arith) in
+      let r = same-reached d (omega arith) in
+      λ i. cond (lt t (e i)) (r i) (r i + 1)
 
-  half-within : (b : Bool) (e : Ends) → e .lo ≤ n → e .hi ≤ n → (half b e .lo ≤ n) × (half b e .hi ≤ n)
-  half-within true e l h = (l, omega arith)
-  half-within false e l h = (omega arith, h)
-
-  same-spin : (m : ℕ) (e : Ends) → e .lo ≤ n → e .hi ≤ n → spin apart (narrow ks t) m e ≡ spin apart (narrow ls t) m e
-  unfolding spin narrow
-  same-spin zero e l h = refl
-  same-spin (suc m) e l h =
-      let w = half-within (lt t (knot ks (middle e))) e l h in
-      ap (λ (s : Ends). cond (apart e) s e)
-      (same-spin m (narrow ks t e) (w .0) (w .1) ∙ ap (λ (s : Ends). spin apart (narrow ls t) m s) (same-half e (omega arith)))
-
-  pub same-halved : 4 ≤ n → n ≤ 66 → n < length ks → n < length ls → halvedOf ks n t ≡ halvedOf ls n t
-  same-halved f r a b =
+  pub same-counted : 4 ≤ n → n ≤ 66 → n < length ks → n < length ls → countedOf ks n t ≡ countedOf ls n t
+  same-counted f r a b =
       let last = same n (le-refl n) in
       let third = same 3 (omega arith) in
-      let ends = same-spin (n - 3) (record { lo = 3; hi = n }) (omega arith) (le-refl n) in
+      let all = same-reached (n - 4) (omega arith) in
       opened ks n t f r a
-      ∙ (λ i. cond (le (last i) t) (n - 1) (cond (le t (third i)) 3 (ends i .lo)))
+      ∙ (λ i. cond (le (last i) t) (n - 1) (cond (le t (third i)) 3 (all i)))
       ∙ sym (opened ls n t f r b)
 
 -- an array that holds accepted knots in front
-pub accepted-span : (u : List Float) (n : ℕ) (t : Float) → Accepted (take (n + 4) u) n → halvedOf u n t ≡ spanOf u n t
-accepted-span u n t a = halved-span u n t (a .four) (a .room) (front u n (a .sound .rises))
+pub accepted-span : (u : List Float) (n : ℕ) (t : Float) → Accepted (take (n + 4) u) n → countedOf u n t ≡ spanOf u n t
+accepted-span u n t a = counted-span u n t (a .four) (a .room) (front u n (a .sound .rises))

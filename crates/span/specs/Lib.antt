@@ -1,4 +1,4 @@
 -- The span, as docs/RULES.md says it, and the search that finds it.
 pub mod Span
-pub mod Halving
+pub mod Counting
 pub mod Within

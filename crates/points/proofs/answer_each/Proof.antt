@@ -3,7 +3,7 @@ use mathlib.Core.List.{List}
 use Prim.Native.Nat.{ℕ, _-_}
 use lib.Ieee.{Float}
 use Rattle.meaning.specs.Scalar.{plain}
-use Rattle.span.specs.Halving.{halvedOf}
+use Rattle.span.specs.Counting.{countedOf}
 use Rattle.evaluate.specs.Point.{ordersOf}
 use Rattle.points.proofs.Turns.{Turned, turned-first, turned-fits, turned-next, turned-all}
 use borrow.Author.Needs.{needs}
@@ -11,7 +11,7 @@ use Rattle.points.proofs.answer_each.Statement.{statement}
 use Rattle.points.proofs.answer_each.Tie as tie
 
 abbrev orders : List Float → ℕ → List Float → List Float → ℕ → Float → List Float
-orders u n xs ys order t = ordersOf plain (halvedOf u n) (record { n = n; xs = xs; ys = ys; knots = u }) t order
+orders u n xs ys order t = ordersOf plain (countedOf u n) (record { n = n; xs = xs; ys = ys; knots = u }) t order
 
 abbrev Inv-loop : tie.InvT-loop
 Inv-loop u n xs ys ts order out₀ refusals₀ count k₀ out refusals k = Turned (orders u n xs ys order) ts order out₀ refusals₀ count k out refusals

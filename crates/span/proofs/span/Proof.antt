@@ -4,22 +4,22 @@ use mathlib.Core.Path.{_∙_}
 use native.Mathlib.Omega.{arith}
 use denote.Ref.{now}
 use borrow.Author.Tests.{lt-ltb, le-ltb, le-leb}
-use Rattle.span.specs.Halving.{halvedOf}
-use Rattle.span.proofs.Spans.{reaches, halved-span}
+use Rattle.span.specs.Counting.{countedOf}
+use Rattle.span.proofs.Spans.{reaches, counted-span}
 use Rattle.span.proofs.span.Statement.{statement}
 use Rattle.span.proofs.span.Tie as tie
 
 returns : tie.Need-returns
-unfolding halvedOf
+unfolding countedOf
 returns c = (rw (lt-ltb _ _ (c .if1 .taken)), ((λ f g up. absurd (omega arith)), (search needs, (search needs, λ h. omega arith))))
 
 returns-2 : tie.Need-returns-2
-unfolding halvedOf
+unfolding countedOf
 returns-2 c =
     (rw (le-ltb _ _ (c .before .if1 .left), lt-ltb _ _ (c .if2 .taken)), ((λ f g up. absurd (omega arith)), (search needs, (search needs, λ h. omega arith))))
 
 returns-3 : tie.Need-returns-3
-unfolding halvedOf
+unfolding countedOf
 returns-3 c =
     let a = c .before .before .before .before .args in (
       rw (le-ltb _ _ (c .before .before .if1 .left), le-ltb _ _ (c .before .if2 .left), le-leb _ _ (c .if3 .taken)),
@@ -28,8 +28,8 @@ returns-3 c =
 
 returns-4 : tie.Need-returns-4
 returns-4 c =
-    let e = c .halved .ensures .0 in
-    (e, ((λ f g up. e ∙ halved-span _ _ _ f g up), (search needs, (search needs, λ h. omega arith))))
+    let e = c .counted .ensures .0 in
+    (e, ((λ f g up. e ∙ counted-span _ _ _ f g up), (search needs, (search needs, λ h. omega arith))))
 
 pub span-spec : {M : Type 1} → statement M
 span-spec = tie.close (tie.spec returns returns-2 returns-3 (search needs) returns-4)

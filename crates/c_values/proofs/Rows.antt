@@ -46,6 +46,10 @@ pub none-written : (out : List Float) → Written [] out out
 unfolding allNumbers
 none-written out = record { long = refl; is = paste-zero out 0 [] }
 
+pub none-listed : (f : ℕ → Dv) (out : List Float) → Written (listed 0 0 f) out out
+unfolding listed
+none-listed f out = none-written out
+
 pub one-written : {ds : List Dv} {out l l′ : List Float} {k : ℕ} (d : Dv) → Written ds out l → k ≡ 28 * length ds → length (d .g) ≡ 27
     → l′ ≡ paste l k (d .v ∷ d .g) 28 → Written (ds ++ (d ∷ [])) out l′
 one-written {ds} {out} {l} {l′} {k} d a e g p =
@@ -65,6 +69,9 @@ one-written {ds} {out} {l} {l′} {k} d a e g p =
 -- all of them
 pub all-written : {ds : List Dv} {out l : List Float} → Written ds out l → l ≡ paste out 0 (allNumbers ds) (28 * length ds)
 all-written {ds} {out} a = a .is ∙ ap (λ (k : ℕ). paste out 0 (allNumbers ds) k) (a .long)
+
+pub all-listed : {out l : List Float} (d : ℕ) (f : ℕ → Dv) → Written (listed 0 d f) out l → l ≡ paste out 0 (allNumbers (listed 0 d f)) (28 * d)
+all-listed {out} d f a = all-written a ∙ ap (λ (k : ℕ). paste out 0 (allNumbers (listed 0 d f)) (28 * k)) (length-listed 0 d f)
 
 -- ---- the counts
 

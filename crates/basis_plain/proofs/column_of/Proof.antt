@@ -1,10 +1,10 @@
 -- `basis_plain::column_of` meets its contract: each turn of the loop is `columnTurn`.
+use native.Mathlib.Omega.{arith}
 use Prim.Native.Nat.{_-_}
 use Rattle.meaning.specs.Scalar.{plain}
 use Rattle.meaning.proofs.For.{At, first, next, last}
 use Rattle.basis.specs.Triangle.{columnTurn}
 use Rattle.basis.proofs.Laws.{column-turn, column-of}
-use borrow.Author.Needs.{needs}
 use Rattle.basis_plain.proofs.column_of.Statement.{statement}
 use Rattle.basis_plain.proofs.column_of.Tie as tie
 
@@ -15,7 +15,7 @@ abbrev μ-loop : tie.MeasureT-loop
 μ-loop left right j ndu₀ saved₀ r₀ ndu saved r = j - r
 
 loop-holds : tie.Need-loop-holds Inv-loop μ-loop
-loop-holds c = first (search needs)
+loop-holds c = first (omega arith)
 
 loop-again : tie.Need-loop-again Inv-loop μ-loop
 loop-again c =
@@ -30,5 +30,5 @@ returns c =
 pub column-of-spec : {M : Type 1} → statement M
 column-of-spec =
     tie.close
-    (tie.spec Inv-loop μ-loop loop-holds (search needs) (search needs) (search needs) (search needs) (search needs) (search needs) (search needs) (search needs) (search needs) (search needs) (search needs) (search needs) (search needs) (search needs) (search needs)
-    loop-again (search needs) (search needs) (search needs) (search needs) returns)
+    (tie.spec Inv-loop μ-loop loop-holds (omega arith) (omega arith) (omega arith) (omega arith) (omega arith) (omega arith) (omega arith) (omega arith) (omega arith) (omega arith) (omega arith) (omega arith) (omega arith) (omega arith) (omega arith)
+    loop-again (omega arith) (omega arith) (omega arith) (omega arith) returns)

@@ -1,4 +1,5 @@
 -- `basis_plain::function_of` meets its contract: each turn of the loop is `orderTurn`.
+use native.Mathlib.Omega.{arith}
 use mathlib.Core.Path.{_≡_, refl, ap}
 use Prim.Native.Nat.{_+_, _-_}
 use lib.Ieee.{Float}
@@ -8,7 +9,6 @@ use Rattle.basis.specs.Derivatives.{startCoefs}
 use Rattle.basis.specs.Basis.{Orders, orderTurn, functionOf}
 use Rattle.basis_plain.specs.View.{view}
 use Rattle.basis.proofs.Laws.{order-turn}
-use borrow.Author.Needs.{needs}
 use Rattle.basis_plain.proofs.function_of.Statement.{statement}
 use Rattle.basis_plain.proofs.function_of.Tie as tie
 
@@ -21,19 +21,19 @@ abbrev μ-loop : tie.MeasureT-loop
 μ-loop ndu n r ders₀ coefs₀ end k₀ ders coefs k = end - k
 
 loop-holds : tie.Need-loop-holds Inv-loop μ-loop
-loop-holds c = (refl, rw (c .start-coefs .ensures) (first (search needs)))
+loop-holds c = (refl, rw (c .start-coefs .ensures) (first (omega arith)))
 
 loop-again : tie.Need-loop-again Inv-loop μ-loop
 loop-again c =
     let inv = c .before .before .loop .inv in
-    (inv .0, next (inv .1) (search needs) (order-turn plain _ _ _ _ (c .order-of .ensures)))
+    (inv .0, next (inv .1) (omega arith) (order-turn plain _ _ _ _ (c .order-of .ensures)))
 
 returns : tie.Need-returns Inv-loop μ-loop
 unfolding functionOf
-returns c = ap (λ (s : Orders Float). s .ders) (last (c .before .loop .inv .1) (search needs))
+returns c = ap (λ (s : Orders Float). s .ders) (last (c .before .loop .inv .1) (omega arith))
 
 pub function-of-spec : {M : Type 1} → statement M
 function-of-spec =
     tie.close
-    (tie.spec Inv-loop μ-loop (search needs) (search needs) loop-holds (search needs) (search needs) (search needs)
-    (search needs) (search needs) (search needs) (search needs) loop-again returns)
+    (tie.spec Inv-loop μ-loop (omega arith) (omega arith) loop-holds (omega arith) (omega arith) (omega arith)
+    (omega arith) (omega arith) (omega arith) (omega arith) loop-again returns)

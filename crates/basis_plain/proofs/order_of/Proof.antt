@@ -1,7 +1,7 @@
 -- `basis_plain::order_of` meets its contract.
+use native.Mathlib.Omega.{arith}
 use Rattle.meaning.specs.Scalar.{plain}
 use Rattle.basis.proofs.Laws.{order-of}
-use borrow.Author.Needs.{needs}
 use Rattle.basis_plain.proofs.order_of.Statement.{statement}
 use Rattle.basis_plain.proofs.order_of.Tie as tie
 
@@ -10,4 +10,4 @@ returns c = order-of plain _ _ _ _ (c .before .before .before .before .first-coe
 
 pub order-of-spec : {M : Type 1} → statement M
 order-of-spec =
-    tie.close (tie.spec (search needs) (search needs) (search needs) returns)
+    tie.close (tie.spec (omega arith) (omega arith) (omega arith) returns)

@@ -1,10 +1,10 @@
 -- `basis_plain::triangle_of` meets its contract: each turn of the loop is `sidesTurn`.
+use native.Mathlib.Omega.{arith}
 use Prim.Native.Nat.{_-_}
 use Rattle.meaning.specs.Scalar.{plain}
 use Rattle.meaning.proofs.For.{At, first, next, last}
 use Rattle.basis.specs.Triangle.{sidesTurn}
 use Rattle.basis.proofs.Laws.{sides-turn, triangle-of}
-use borrow.Author.Needs.{needs}
 use Rattle.basis_plain.proofs.triangle_of.Statement.{statement}
 use Rattle.basis_plain.proofs.triangle_of.Tie as tie
 
@@ -15,11 +15,11 @@ abbrev μ-loop : tie.MeasureT-loop
 μ-loop u i t ndu₀ left₀ right₀ j₀ ndu left right j = 4 - j
 
 loop-holds : tie.Need-loop-holds Inv-loop μ-loop
-loop-holds c = first (search needs)
+loop-holds c = first (omega arith)
 
 loop-again : tie.Need-loop-again Inv-loop μ-loop
 loop-again c =
-    next (c .before .before .before .before .before .before .loop .inv) (search needs)
+    next (c .before .before .before .before .before .before .loop .inv) (omega arith)
     (sides-turn plain _ _ _ _ (record { ndu = _; left = _; right = _ }) (c .column-of .ensures))
 
 returns : tie.Need-returns Inv-loop μ-loop
@@ -28,6 +28,6 @@ returns c = triangle-of plain _ _ _ _ (last (c .before .loop .inv) (c .loop-test
 pub triangle-of-spec : {M : Type 1} → statement M
 triangle-of-spec =
     tie.close
-    (tie.spec Inv-loop μ-loop (search needs) (search needs) loop-holds (search needs) (search needs) (search needs)
-    (search needs) (search needs) (search needs) (search needs) (search needs) (search needs) (search needs)
-    (search needs) (search needs) (search needs) (search needs) loop-again returns)
+    (tie.spec Inv-loop μ-loop (omega arith) (omega arith) loop-holds (omega arith) (omega arith) (omega arith)
+    (omega arith) (omega arith) (omega arith) (omega arith) (omega arith) (omega arith) (omega arith)
+    (omega arith) (omega arith) (omega arith) (omega arith) loop-again returns)

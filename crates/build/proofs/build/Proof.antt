@@ -1,7 +1,7 @@
 -- `build::build` meets its contract.
+use native.Mathlib.Omega.{arith}
 use mathlib.Core.Path.{ap, _∙_}
 use mathlib.Core.Bool.{Bool}
-use borrow.Author.Needs.{needs}
 use denote.Ref.{now}
 use Rattle.meaning.proofs.Tests.{or-false}
 use Rattle.build.specs.Build.{builtBy}
@@ -15,4 +15,4 @@ returns c =
     ∙ ap (λ (t : Bool). builtBy (a .form) (now (a .coords)) (a .given) (now (a .knots)) t (now (a .work))) (or-false _)
 
 pub build-spec : {M : Type 1} → statement M
-build-spec = tie.close (tie.spec (search needs) (search needs) returns)
+build-spec = tie.close (tie.spec (omega arith) (omega arith) returns)

@@ -4,7 +4,6 @@ use mathlib.Core.Bool.{_||_}
 use mathlib.Core.List.{List}
 use Prim.Native.Nat.{ℕ, _+_, _*_, _/_, _≤_}
 use native.Mathlib.Omega.{arith}
-use borrow.Author.Needs.{needs}
 use denote.Ref.{now}
 use lib.Dec.{ltb}
 use lib.ListN.{length}
@@ -67,5 +66,5 @@ returns c =
 pub build-slices-spec : {M : Type 1} → statement M
 build-slices-spec =
     tie.close
-    (tie.spec (search needs) mul-either add-either (search needs) (search needs) in-turn-requires (search needs)
-    mul-put (search needs) (search needs) (search needs) (search needs) (search needs) returns)
+    (tie.spec (omega arith) mul-either add-either (omega arith) (omega arith) in-turn-requires (omega arith)
+    mul-put (omega arith) (omega arith) (omega arith) (omega arith) (omega arith) returns)

@@ -1,5 +1,5 @@
 -- `build::build_with` meets its contract.
-use borrow.Author.Needs.{needs}
+use native.Mathlib.Omega.{arith}
 use denote.Ref.{now}
 use Rattle.build.proofs.Forms.{by-control, by-fit}
 use Rattle.build.proofs.build_with.Statement.{statement}
@@ -18,4 +18,4 @@ returns-2 c =
 pub build-with-spec : {M : Type 1} → statement M
 build-with-spec =
     tie.close
-    (tie.spec (search needs) (search needs) (search needs) (search needs) returns (search needs) returns-2)
+    (tie.spec (omega arith) (omega arith) (omega arith) (omega arith) returns (omega arith) returns-2)

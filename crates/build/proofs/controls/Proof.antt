@@ -1,5 +1,5 @@
 -- `build::controls` meets its contract.
-use borrow.Author.Needs.{needs}
+use native.Mathlib.Omega.{arith}
 use Rattle.build.proofs.controls.Statement.{statement}
 use Rattle.build.proofs.controls.Tie as tie
 
@@ -11,4 +11,4 @@ returns-2 c = rw (c .enum-told2 .given .1)
 
 pub controls-spec : {M : Type 1} → statement M
 controls-spec =
-    tie.close (tie.spec (search needs) (search needs) (search needs) returns returns-2)
+    tie.close (tie.spec (omega arith) (omega arith) (omega arith) returns returns-2)

@@ -6,7 +6,6 @@ use lib.Ieee.{nan}
 use Rattle.meaning.proofs.Filling.{Filled, empty, front}
 use Rattle.build.specs.Build.{inTurn}
 use Rattle.build.proofs.Turned.{turned, two-more}
-use borrow.Author.Needs.{needs}
 use Rattle.build.proofs.in_turn.Statement.{statement}
 use Rattle.build.proofs.in_turn.Tie as tie
 
@@ -17,10 +16,10 @@ abbrev μ-loop : tie.MeasureT-loop
 μ-loop n xs ys a₀ i₀ a i = n - i
 
 loop-holds : tie.Need-loop-holds Inv-loop μ-loop
-loop-holds c = (search needs, empty (search needs))
+loop-holds c = (omega arith, empty (omega arith))
 
 loop-again : tie.Need-loop-again Inv-loop μ-loop
-loop-again c = (search needs, two-more _ _ (c .before .loop .inv .1) (search needs))
+loop-again c = (omega arith, two-more _ _ (c .before .loop .inv .1) (omega arith))
 
 returns : tie.Need-returns Inv-loop μ-loop
 unfolding inTurn
@@ -32,6 +31,6 @@ returns c =
 pub in-turn-spec : {M : Type 1} → statement M
 in-turn-spec =
     tie.close
-    (tie.spec Inv-loop μ-loop loop-holds (search needs) (search needs) (search needs) (search needs) (search needs)
-    (search needs) (search needs) (search needs) (search needs) (search needs) (search needs) (search needs)
-    (search needs) loop-again returns)
+    (tie.spec Inv-loop μ-loop loop-holds (omega arith) (omega arith) (omega arith) (omega arith) (omega arith)
+    (omega arith) (omega arith) (omega arith) (omega arith) (omega arith) (omega arith) (omega arith)
+    (omega arith) loop-again returns)

@@ -1,4 +1,5 @@
 -- `c_values::answer_pair` meets its contract.
+use native.Mathlib.Omega.{arith}
 use denote.Ref.{now}
 use Rattle.c_values.proofs.Slices.{two-put}
 use Rattle.c_values.proofs.Answers.{short-p, given-p}
@@ -17,4 +18,4 @@ returns-2 c = let start = c .before in given-p _ _ (c .if1 .left) (two-put (now 
 
 pub answer-pair-spec : {M : Type 1} → statement M
 answer-pair-spec =
-    tie.close (tie.spec returns (search needs) slice-write-out-2 (search needs) returns-2)
+    tie.close (tie.spec returns (omega arith) slice-write-out-2 (search needs) returns-2)

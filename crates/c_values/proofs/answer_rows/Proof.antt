@@ -1,8 +1,8 @@
 -- `c_values::answer_rows` meets its contract.
+use native.Mathlib.Omega.{arith}
 use Rattle.meaning.specs.Search.{listed}
 use Rattle.c_values.specs.Crossing.{AnsweredB}
 use Rattle.c_values.proofs.Answers.{short-out, short-counts, given-all}
-use borrow.Author.Needs.{needs}
 use Rattle.c_values.proofs.answer_rows.Statement.{statement}
 use Rattle.c_values.proofs.answer_rows.Tie as tie
 
@@ -23,4 +23,4 @@ returns-3 c =
 
 pub answer-rows-spec : {M : Type 1} → statement M
 answer-rows-spec =
-    tie.close (tie.spec returns returns-2 (search needs) (search needs) (search needs) returns-3)
+    tie.close (tie.spec returns returns-2 (omega arith) (omega arith) (omega arith) returns-3)

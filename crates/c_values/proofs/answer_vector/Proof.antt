@@ -1,4 +1,5 @@
 -- `c_values::answer_vector` meets its contract: x is written, then y behind it.
+use native.Mathlib.Omega.{arith}
 use mathlib.Core.Path.{refl}
 use denote.Ref.{now}
 use Rattle.c_values.specs.Crossing.{AnsweredV}
@@ -34,5 +35,5 @@ returns-3 c =
 pub answer-vector-spec : {M : Type 1} → statement M
 answer-vector-spec =
     tie.close
-    (tie.spec returns returns-2 (search needs) (search needs) (search needs) slice-write-counts-2 (search needs)
+    (tie.spec returns returns-2 (omega arith) (omega arith) (omega arith) slice-write-counts-2 (omega arith)
     (search needs) returns-3)

@@ -1,6 +1,6 @@
 -- `c_values::read_vector` meets its contract.
+use native.Mathlib.Omega.{arith}
 use Rattle.c_values.specs.Crossing.{readV}
-use borrow.Author.Needs.{needs}
 use Rattle.c_values.proofs.read_vector.Statement.{statement}
 use Rattle.c_values.proofs.read_vector.Tie as tie
 
@@ -12,4 +12,4 @@ returns c =
 pub read-vector-spec : {M : Type 1} → statement M
 read-vector-spec =
     tie.close
-    (tie.spec (search needs) (search needs) (search needs) (search needs) returns)
+    (tie.spec (omega arith) (omega arith) (omega arith) (omega arith) returns)

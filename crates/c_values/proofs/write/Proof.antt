@@ -34,4 +34,4 @@ returns c = (wrote (c .before .before), sym (slice-aggregate-put (c .before .bef
 pub write-spec : {M : Type 1} → statement M
 write-spec =
     tie.close
-    (tie.spec (search needs) (search needs) slice-aggregate-put (search needs) (search needs) same-length returns)
+    (tie.spec (omega arith) (omega arith) slice-aggregate-put (omega arith) (omega arith) same-length returns)

@@ -1,4 +1,5 @@
 -- `closest::answer_at` meets its contract, arm by arm.
+use native.Mathlib.Omega.{arith}
 use borrow.Author.Needs.{needs}
 use denote.Ref.{now}
 use Rattle.closest.proofs.Each.{is-handed, refusal-handed}
@@ -14,5 +15,5 @@ returns-2 c = let a = c .before .before .before .args in refusal-handed _ (now (
 pub answer-at-spec : {M : Type 1} → statement M
 answer-at-spec =
     tie.close
-    (tie.spec (search needs) (search needs) (search needs) (search needs) (search needs) (search needs) (search needs) (search needs)
+    (tie.spec (omega arith) (omega arith) (omega arith) (omega arith) (omega arith) (omega arith) (omega arith) (omega arith)
     (search needs) (search needs) returns (search needs) returns-2)

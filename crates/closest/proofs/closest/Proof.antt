@@ -1,6 +1,6 @@
 -- `closest::closest` meets its contract: the rules of the record, then the answer.
+use native.Mathlib.Omega.{arith}
 use mathlib.Core.Path.{sym, _∙_}
-use borrow.Author.Needs.{needs}
 use Rattle.refusal.proofs.Rows.{number-of}
 use Rattle.outcome.proofs.Doors.{tells, refused-told, after-told}
 use Rattle.shape.proofs.Trusted.{numbered-shape, trusted}
@@ -31,4 +31,4 @@ returns-2 c =
 
 pub closest-spec : {M : Type 1} → statement M
 closest-spec =
-    tie.close (tie.spec (search needs) returns search-requires returns-2)
+    tie.close (tie.spec (omega arith) returns search-requires returns-2)

@@ -1,6 +1,6 @@
 -- `closest::closest_many_slices` meets its contract: the rules of the call in their order, then each point.
+use native.Mathlib.Omega.{arith}
 use mathlib.Core.Bool.{true}
-use borrow.Author.Needs.{needs}
 use denote.Ref.{now}
 use Rattle.refusal.proofs.Rows.{Passed}
 use Rattle.knots.specs.declared.Form.the-variants.{Control}
@@ -69,4 +69,4 @@ returns-4 c =
 pub closest-many-slices-spec : {M : Type 1} → statement M
 closest-many-slices-spec =
     tie.close
-    (tie.spec (search needs) returns (search needs) returns-2 (search needs) returns-3 search-each-requires (search needs) (search needs) returns-4)
+    (tie.spec (omega arith) returns (omega arith) returns-2 (omega arith) returns-3 search-each-requires (omega arith) (omega arith) returns-4)

@@ -1,7 +1,7 @@
 -- `closest::closest_slices` meets its contract: the rules of the slices, then the answer.
+use native.Mathlib.Omega.{arith}
 use mathlib.Core.Path.{ap, _∙_}
 use mathlib.Core.Bool.{true}
-use borrow.Author.Needs.{needs}
 use denote.Ref.{now}
 use Rattle.knots.specs.declared.Form.the-variants.{Control}
 use Rattle.outcome.proofs.Doors.{tells, refused-told, after-told}
@@ -37,4 +37,4 @@ returns-2 c =
 
 pub closest-slices-spec : {M : Type 1} → statement M
 closest-slices-spec =
-    tie.close (tie.spec (search needs) returns search-requires returns-2)
+    tie.close (tie.spec (omega arith) returns search-requires returns-2)

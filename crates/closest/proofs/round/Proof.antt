@@ -1,4 +1,5 @@
 -- `closest::round` meets its contract.
+use native.Mathlib.Omega.{arith}
 use denote.Ref.{now}
 use lib.Ieee.{Float}
 use Rattle.plane.specs.View.{view}
@@ -37,5 +38,5 @@ returns-3 c =
 pub round-spec : {M : Type 1} → statement M
 round-spec =
     tie.close
-    (tie.spec slope-at-requires returns (search needs) (search needs) (search needs) (search needs) (search needs)
-    (search needs) returns-2 (search needs) returns-3)
+    (tie.spec slope-at-requires returns (omega arith) (omega arith) (omega arith) (omega arith) (omega arith)
+    (omega arith) returns-2 (omega arith) returns-3)

@@ -1,4 +1,5 @@
 -- `closest::sample` meets its contract.
+use native.Mathlib.Omega.{arith}
 use mathlib.Core.Path.{_≡_}
 use mathlib.Core.Bool.{false, _&&_}
 use denote.Ref.{now}
@@ -8,7 +9,6 @@ use Rattle.shape.specs.Shape.{Shape}
 use Rattle.closest.specs.Search.{distanceAt}
 use Rattle.closest.specs.Sampling.{squareAt}
 use Rattle.closest.proofs.Steps.{square-is, distance-is, beyond, taken, passed}
-use borrow.Author.Needs.{needs}
 use Rattle.closest.proofs.sample.Statement.{statement}
 use Rattle.closest.proofs.sample.Tie as tie
 
@@ -64,4 +64,4 @@ returns-3 c =
 pub sample-spec : {M : Type 1} → statement M
 sample-spec =
     tie.close
-    (tie.spec (search needs) (search needs) float-from-bits-infinite (search needs) returns (search needs) returns-2 returns-3)
+    (tie.spec (omega arith) (omega arith) float-from-bits-infinite (omega arith) returns (omega arith) returns-2 returns-3)

@@ -32,7 +32,7 @@ sample-pair-requires : tie.Need-sample-pair-requires Inv-loop μ-loop
 sample-pair-requires c κs = search needs
 
 loop-again : tie.Need-loop-again Inv-loop μ-loop
-loop-again c = let l = c .before .before .loop in (l .inv .0, next (l .inv .1) (search needs) (c .sample-pair .ensures))
+loop-again c = let l = c .before .before .loop in (l .inv .0, next (l .inv .1) (omega arith) (c .sample-pair .ensures))
 
 sample-requires : tie.Need-sample-requires Inv-loop μ-loop
 sample-requires c κs = search needs
@@ -43,10 +43,10 @@ returns c =
     let l = c .before .before .before in
     let a = l .before .before .args in
     let shape : Shape Float = record { n = a .n; xs = now (a .xs); ys = now (a .ys); knots = now (a .u) } in
-    nearest-of-all shape (view (a .p)) (last (l .loop .inv .1) (search needs)) (c .sample .ensures)
+    nearest-of-all shape (view (a .p)) (last (l .loop .inv .1) (omega arith)) (c .sample .ensures)
 
 pub sample-all-spec : {M : Type 1} → statement M
 sample-all-spec =
     tie.close
-    (tie.spec Inv-loop μ-loop float-from-bits-infinite (search needs) (search needs) loop-holds sample-pair-requires
-    (search needs) (search needs) loop-again (search needs) (search needs) sample-requires returns)
+    (tie.spec Inv-loop μ-loop float-from-bits-infinite (omega arith) (omega arith) loop-holds sample-pair-requires
+    (omega arith) (omega arith) loop-again (omega arith) (omega arith) sample-requires returns)

@@ -1,4 +1,5 @@
 -- `closest::sample_pair` meets its contract: all of the pair's samples, or none.
+use native.Mathlib.Omega.{arith}
 use borrow.Author.Needs.{needs}
 use Rattle.closest.specs.Sampling.{through}
 use Rattle.closest.proofs.sample_pair.Statement.{statement}
@@ -17,4 +18,4 @@ returns-2 c = rw (c .if1 .left)
 pub sample-pair-spec : {M : Type 1} → statement M
 sample-pair-spec =
     tie.close
-    (tie.spec (search needs) (search needs) (search needs) (search needs) (search needs) sample-span-requires returns returns-2)
+    (tie.spec (omega arith) (omega arith) (omega arith) (omega arith) (omega arith) sample-span-requires returns returns-2)

@@ -39,5 +39,5 @@ returns c =
 pub sample-span-spec : {M : Type 1} → statement M
 sample-span-spec =
     tie.close
-    (tie.spec Inv-loop μ-loop (search needs) (search needs) (search needs) (search needs) (search needs) loop-holds (search needs)
-    sample-requires (search needs) (search needs) loop-again returns)
+    (tie.spec Inv-loop μ-loop (omega arith) (omega arith) (omega arith) (omega arith) (omega arith) loop-holds (omega arith)
+    sample-requires (omega arith) (omega arith) loop-again returns)

@@ -1,4 +1,5 @@
 -- `closest::search` meets its contract: the tests in the order of the table.
+use native.Mathlib.Omega.{arith}
 use borrow.Author.Needs.{needs}
 use denote.Ref.{now}
 use lib.Ieee.{Float}
@@ -62,5 +63,5 @@ returns-5 c =
 pub search-spec : {M : Type 1} → statement M
 search-spec =
     tie.close
-    (tie.spec (search needs) (search needs) returns (search needs) (search needs) returns-2 sample-all-requires
-    (search needs) returns-3 newton-requires (search needs) returns-4 returns-5)
+    (tie.spec (omega arith) (omega arith) returns (omega arith) (omega arith) returns-2 sample-all-requires
+    (omega arith) returns-3 newton-requires (omega arith) returns-4 returns-5)

@@ -40,5 +40,5 @@ returns c = turned-all (c .before .loop .inv) (c .loop-test .left)
 pub search-each-spec : {M : Type 1} → statement M
 search-each-spec =
     tie.close
-    (tie.spec Inv-loop μ-loop loop-holds (search needs) (search needs) (search needs) (search needs) (search needs) (search needs) (search needs)
-    search-requires answer-at-requires (search needs) (search needs) loop-again (search needs) (search needs) returns)
+    (tie.spec Inv-loop μ-loop loop-holds (omega arith) (omega arith) (omega arith) (omega arith) (omega arith) (omega arith) (omega arith)
+    search-requires answer-at-requires (omega arith) (omega arith) loop-again (omega arith) (omega arith) returns)

@@ -1,7 +1,7 @@
 -- `closest::slope_at` meets its contract.
+use native.Mathlib.Omega.{arith}
 use Rattle.plane.specs.View.{view}
 use Rattle.closest.proofs.Steps.{slope-is}
-use borrow.Author.Needs.{needs}
 use Rattle.closest.proofs.slope_at.Statement.{statement}
 use Rattle.closest.proofs.slope_at.Tie as tie
 
@@ -14,5 +14,5 @@ returns c =
 pub slope-at-spec : {M : Type 1} → statement M
 slope-at-spec =
     tie.close
-    (tie.spec (search needs) (search needs) (search needs) (search needs) (search needs) (search needs) (search needs)
-    (search needs) (search needs) (search needs) returns)
+    (tie.spec (omega arith) (omega arith) (omega arith) (omega arith) (omega arith) (omega arith) (omega arith)
+    (omega arith) (omega arith) (omega arith) returns)

@@ -2,7 +2,6 @@
 use mathlib.Core.Path.{sym, _∙_}
 use Prim.Native.Nat.{_≤_}
 use native.Mathlib.Omega.{arith}
-use borrow.Author.Needs.{needs}
 use denote.Ref.{now}
 use Rattle.refusal.proofs.Rows.{number-of}
 use Rattle.shape.specs.Shape.{pointsIn}
@@ -42,5 +41,5 @@ returns-2 c =
 pub assemble-spec : {M : Type 1} → statement M
 assemble-spec =
     tie.close
-    (tie.spec (search needs) (search needs) returns every-other-requires every-other-requires-2 stored-requires
-    (search needs) returns-2)
+    (tie.spec (omega arith) (omega arith) returns every-other-requires every-other-requires-2 stored-requires
+    (omega arith) returns-2)

@@ -1,6 +1,6 @@
 -- `curve::stored` meets its contract.
+use native.Mathlib.Omega.{arith}
 use mathlib.Core.Path.{_∙_}
-use borrow.Author.Needs.{needs}
 use Rattle.curve.proofs.stored.Statement.{statement}
 use Rattle.curve.proofs.stored.Tie as tie
 
@@ -13,4 +13,4 @@ returns-2 c = c .uniform .ensures ∙ rw (c .before .if1 .left)
 pub stored-spec : {M : Type 1} → statement M
 stored-spec =
     tie.close
-    (tie.spec (search needs) (search needs) (search needs) returns (search needs) returns-2)
+    (tie.spec (omega arith) (omega arith) (omega arith) returns (omega arith) returns-2)

@@ -1,11 +1,11 @@
 -- `evaluate::inside` meets its contract: the four control points of the span, in a row.
+use native.Mathlib.Omega.{arith}
 use mathlib.Core.Path.{refl, ap, _∙_}
 use Prim.Native.Nat.{_+_}
 use denote.Ref.{now}
 use Rattle.meaning.specs.Scalar.{plain}
 use Rattle.evaluate.specs.Point.{placed}
 use Rattle.evaluate.proofs.Pieces.{weighted-row, on-span-is}
-use borrow.Author.Needs.{needs}
 use Rattle.evaluate.proofs.inside.Statement.{statement}
 use Rattle.evaluate.proofs.inside.Tie as tie
 
@@ -25,4 +25,4 @@ returns c =
 pub inside-spec : {M : Type 1} → statement M
 inside-spec =
     tie.close
-    (tie.spec (search needs) (search needs) (search needs) (search needs) (search needs) (search needs) returns)
+    (tie.spec (omega arith) (omega arith) (omega arith) (omega arith) (omega arith) (omega arith) returns)

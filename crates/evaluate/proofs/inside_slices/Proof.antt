@@ -1,6 +1,5 @@
 -- `evaluate::inside_slices` meets its contract: the window of the span, and every second number from its first on.
 use mathlib.Core.Path.{refl, _∙_}
-use borrow.Author.Needs.{needs}
 use denote.Ref.{now}
 use Prim.Native.Nat.{_+_, _<_}
 use native.Mathlib.Omega.{arith}
@@ -17,7 +16,7 @@ below : (c : tie.After-span) → c .span .result < pointsIn (now (start-of c .ar
 below c = c .span .ensures .1 .1 .1 .1 (start-of c .pre .0 .four)
 
 window-requires : tie.Need-window-requires
-window-requires c κs = let s = start-of c .pre .0 in (search needs, omega (arith, below c, s .long))
+window-requires c κs = let s = start-of c .pre .0 in (omega arith, omega (arith, below c, s .long))
 
 four-requires : tie.Need-four-requires
 four-requires c κs = omega (arith, below (c .before))
@@ -35,11 +34,11 @@ returns c =
     let a = s .args in
     c .on-span .ensures
     ∙ rw (y .four2 .ensures, x .four .ensures, w .window .ensures)
-    (slices-on-span (now (a .coords)) (now (a .knots)) (s .pre .0) (a .t) (a .nd) (i .span .result) _ _ (a .nd + 1) (i .span .ensures .0) (search needs)
+    (slices-on-span (now (a .coords)) (now (a .knots)) (s .pre .0) (a .t) (a .nd) (i .span .result) _ _ (a .nd + 1) (i .span .ensures .0) (omega arith)
     (below i) refl refl)
 
 pub inside-slices-spec : {M : Type 1} → statement M
 inside-slices-spec =
     tie.close
-    (tie.spec (search needs) window-requires (search needs) (search needs) four-requires (search needs) four-requires-2
-    (search needs) returns)
+    (tie.spec (omega arith) window-requires (omega arith) (omega arith) four-requires (omega arith) four-requires-2
+    (omega arith) returns)

@@ -1,9 +1,9 @@
 -- `evaluate::on_from` meets its contract.
+use native.Mathlib.Omega.{arith}
 use mathlib.Core.Path.{_∙_}
 use Prim.Native.Nat.{_+_}
 use denote.Ref.{now}
 use Rattle.evaluate.proofs.Places.{straight-on}
-use borrow.Author.Needs.{needs}
 use Rattle.evaluate.proofs.on_from.Statement.{statement}
 use Rattle.evaluate.proofs.on_from.Tie as tie
 
@@ -16,5 +16,5 @@ returns c =
 pub on-from-spec : {M : Type 1} → statement M
 on-from-spec =
     tie.close
-    (tie.spec (search needs) (search needs) (search needs) (search needs) (search needs) (search needs) (search needs)
+    (tie.spec (omega arith) (omega arith) (omega arith) (omega arith) (omega arith) (omega arith) (omega arith)
     returns)

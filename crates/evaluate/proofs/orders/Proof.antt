@@ -1,8 +1,8 @@
 -- `evaluate::orders` meets its contract.
+use native.Mathlib.Omega.{arith}
 use mathlib.Core.Path.{_∙_}
 use Rattle.meaning.specs.Scalar.{plain}
 use Rattle.evaluate.proofs.Places.{too-few, too-many, too-high, before-domain, past-domain, in-domain}
-use borrow.Author.Needs.{needs}
 use Rattle.evaluate.proofs.orders.Statement.{statement}
 use Rattle.evaluate.proofs.orders.Tie as tie
 
@@ -35,5 +35,5 @@ returns-6 c =
 pub orders-spec : {M : Type 1} → statement M
 orders-spec =
     tie.close
-    (tie.spec returns returns-2 returns-3 (search needs) (search needs) (search needs) (search needs) (search needs)
-    returns-4 (search needs) returns-5 (search needs) returns-6)
+    (tie.spec returns returns-2 returns-3 (omega arith) (omega arith) (omega arith) (omega arith) (omega arith)
+    returns-4 (omega arith) returns-5 (omega arith) returns-6)

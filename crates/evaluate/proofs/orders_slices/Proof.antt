@@ -1,6 +1,6 @@
 -- `evaluate::orders_slices` meets its contract.
+use native.Mathlib.Omega.{arith}
 use mathlib.Core.Path.{_∙_}
-use borrow.Author.Needs.{needs}
 use Rattle.meaning.specs.Scalar.{plain}
 use Rattle.evaluate.proofs.Places.{too-few, too-many, too-high}
 use Rattle.evaluate.proofs.Slices.{right-count, wrong-count, slices-before, slices-past, slices-inside}
@@ -23,20 +23,20 @@ returns-4 c =
 returns-5 : tie.Need-returns-5
 returns-5 c =
     let t = c .before .before .before .before in
-    c .beyond-slices .ensures ∙ slices-before _ _ (search needs) _ _ (t .if4 .left) (c .before .if5 .taken)
+    c .beyond-slices .ensures ∙ slices-before _ _ (omega arith) _ _ (t .if4 .left) (c .before .if5 .taken)
 
 returns-6 : tie.Need-returns-6
 returns-6 c =
     let t = c .before .before .before .before .before in
-    c .beyond-slices2 .ensures ∙ slices-past _ _ (search needs) _ _ (t .if4 .left) (c .before .before .if5 .left) (c .before .if6 .taken)
+    c .beyond-slices2 .ensures ∙ slices-past _ _ (omega arith) _ _ (t .if4 .left) (c .before .before .if5 .left) (c .before .if6 .taken)
 
 returns-7 : tie.Need-returns-7
 returns-7 c =
     let t = c .before .before .before .before .before in
-    c .inside-slices .ensures ∙ slices-inside _ _ (search needs) _ _ (t .if4 .left) (c .before .before .if5 .left) (c .before .if6 .left)
+    c .inside-slices .ensures ∙ slices-inside _ _ (omega arith) _ _ (t .if4 .left) (c .before .before .if5 .left) (c .before .if6 .left)
 
 pub orders-slices-spec : {M : Type 1} → statement M
 orders-slices-spec =
     tie.close
-    (tie.spec (search needs) returns returns-2 returns-3 returns-4 (search needs) (search needs) (search needs)
-    (search needs) (search needs) returns-5 (search needs) returns-6 (search needs) returns-7)
+    (tie.spec (omega arith) returns returns-2 returns-3 returns-4 (omega arith) (omega arith) (omega arith)
+    (omega arith) (omega arith) returns-5 (omega arith) returns-6 (omega arith) returns-7)

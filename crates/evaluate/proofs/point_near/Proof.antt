@@ -6,7 +6,6 @@ use denote.Ref.{now}
 use lib.Ieee.{Float}
 use Rattle.shape.specs.Shape.{Shape}
 use Rattle.evaluate.proofs.Near.{near-span, near-other}
-use borrow.Author.Needs.{needs}
 use Rattle.evaluate.proofs.point_near.Statement.{statement}
 use Rattle.evaluate.proofs.point_near.Tie as tie
 
@@ -47,4 +46,4 @@ returns-2 c =
 pub point-near-spec : {M : Type 1} → statement M
 point-near-spec =
     tie.close
-    (tie.spec (search needs) sub-four four-requires sub-four-2 four-requires-2 (search needs) returns (search needs) (search needs) (search needs) returns-2)
+    (tie.spec (omega arith) sub-four four-requires sub-four-2 four-requires-2 (omega arith) returns (omega arith) (omega arith) (omega arith) returns-2)

@@ -1,6 +1,6 @@
 -- `evaluate::straight` meets its contract.
+use native.Mathlib.Omega.{arith}
 use Rattle.evaluate.proofs.Rooms.{straight-point, straight-more}
-use borrow.Author.Needs.{needs}
 use Rattle.evaluate.proofs.straight.Statement.{statement}
 use Rattle.evaluate.proofs.straight.Tie as tie
 
@@ -13,4 +13,4 @@ returns-2 c = straight-point _ _ _ (c .if1 .left)
 pub straight-spec : {M : Type 1} → statement M
 straight-spec =
     tie.close
-    (tie.spec (search needs) (search needs) (search needs) (search needs) returns returns-2)
+    (tie.spec (omega arith) (omega arith) (omega arith) (omega arith) returns returns-2)

@@ -1,4 +1,5 @@
 -- `evaluate::weigh` meets its contract: a turn adds one product.
+use native.Mathlib.Omega.{arith}
 use Prim.Native.Nat.{_+_, _-_}
 use denote.Ref.{now}
 use Rattle.meaning.specs.Scalar.{plain}
@@ -6,7 +7,6 @@ use Rattle.meaning.specs.Table.{at1}
 use Rattle.meaning.proofs.For.{At, first, next, last}
 use Rattle.evaluate.specs.Point.{weighted}
 use Rattle.evaluate.proofs.Pieces.{weigh-turn}
-use borrow.Author.Needs.{needs}
 use Rattle.evaluate.proofs.weigh.Statement.{statement}
 use Rattle.evaluate.proofs.weigh.Tie as tie
 
@@ -18,20 +18,20 @@ abbrev μ-loop : tie.MeasureT-loop
 μ-loop a row s₀ j₀ s j = 4 - j
 
 loop-holds : tie.Need-loop-holds Inv-loop μ-loop
-loop-holds c = first (search needs)
+loop-holds c = first (omega arith)
 
 loop-again : tie.Need-loop-again Inv-loop μ-loop
 loop-again c =
     let l = c .before .before in
     let a = l .before .args in
-    next (l .loop .inv) (search needs) (weigh-turn plain (now (a .a)) (a .t2) (l .loop .j) (l .loop .s))
+    next (l .loop .inv) (omega arith) (weigh-turn plain (now (a .a)) (a .t2) (l .loop .j) (l .loop .s))
 
 returns : tie.Need-returns Inv-loop μ-loop
 unfolding weighted
-returns c = last (c .before .loop .inv) (search needs)
+returns c = last (c .before .loop .inv) (omega arith)
 
 pub weigh-spec : {M : Type 1} → statement M
 weigh-spec =
     tie.close
-    (tie.spec Inv-loop μ-loop loop-holds (search needs) (search needs) (search needs) (search needs) (search needs)
-    (search needs) loop-again returns)
+    (tie.spec Inv-loop μ-loop loop-holds (omega arith) (omega arith) (omega arith) (omega arith) (omega arith)
+    (omega arith) loop-again returns)

@@ -1,4 +1,5 @@
 -- `evaluate::window` meets its contract: a turn copies one knot.
+use native.Mathlib.Omega.{arith}
 use mathlib.Core.Path.{refl}
 use Prim.Native.Nat.{_+_, _-_}
 use lib.ListN.{set}
@@ -6,7 +7,6 @@ use Rattle.meaning.specs.Scalar.{plain}
 use Rattle.meaning.specs.Table.{at1}
 use Rattle.meaning.proofs.For.{At, first, next, last}
 use Rattle.evaluate.specs.Piece.{around}
-use borrow.Author.Needs.{needs}
 use Rattle.evaluate.proofs.window.Statement.{statement}
 use Rattle.evaluate.proofs.window.Tie as tie
 
@@ -17,17 +17,17 @@ abbrev μ-loop : tie.MeasureT-loop
 μ-loop u i w₀ j₀ w j = 6 - j
 
 loop-holds : tie.Need-loop-holds Inv-loop μ-loop
-loop-holds c = first (search needs)
+loop-holds c = first (omega arith)
 
 loop-again : tie.Need-loop-again Inv-loop μ-loop
-loop-again c = next (c .before .before .loop .inv) (search needs) refl
+loop-again c = next (c .before .before .loop .inv) (omega arith) refl
 
 returns : tie.Need-returns Inv-loop μ-loop
 unfolding around
-returns c = last (c .before .loop .inv) (search needs)
+returns c = last (c .before .loop .inv) (omega arith)
 
 pub window-spec : {M : Type 1} → statement M
 window-spec =
     tie.close
-    (tie.spec Inv-loop μ-loop loop-holds (search needs) (search needs) (search needs) (search needs) (search needs)
-    (search needs) (search needs) (search needs) (search needs) loop-again returns)
+    (tie.spec Inv-loop μ-loop loop-holds (omega arith) (omega arith) (omega arith) (omega arith) (omega arith)
+    (omega arith) (omega arith) (omega arith) (omega arith) loop-again returns)

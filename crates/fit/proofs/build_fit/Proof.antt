@@ -2,7 +2,6 @@
 use mathlib.Core.Path.{sym, ap, _∙_}
 use native.Mathlib.Nat.{suc-ne-zero}
 use native.Mathlib.Omega.{arith}
-use borrow.Author.Needs.{needs}
 use borrow.Author.Tests.{ltb-false}
 use denote.Ref.{now}
 use Rattle.meaning.proofs.Tests.{or-left}
@@ -53,5 +52,5 @@ returns-3 c =
 pub build-fit-spec : {M : Type 1} → statement M
 build-fit-spec =
     tie.close
-    (tie.spec (search needs) (search needs) returns (search needs) (search needs) mul-either (search needs)
-    (search needs) (search needs) returns-2 interpolate-requires (search needs) returns-3)
+    (tie.spec (omega arith) (omega arith) returns (omega arith) (omega arith) mul-either (omega arith)
+    (omega arith) (omega arith) returns-2 interpolate-requires (omega arith) returns-3)

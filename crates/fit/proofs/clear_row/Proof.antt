@@ -18,16 +18,16 @@ abbrev μ-loop : tie.MeasureT-loop
 μ-loop t₀ end k₀ t k = length t₀ - k
 
 loop-holds : tie.Need-loop-holds Inv-loop μ-loop
-loop-holds c = empty (search needs)
+loop-holds c = empty (omega arith)
 
 loop-again : tie.Need-loop-again Inv-loop μ-loop
-loop-again c = filled (c .before .loop .inv) (search needs) (search needs)
+loop-again c = filled (c .before .loop .inv) (omega arith) (search needs)
 
 returns : tie.Need-returns Inv-loop μ-loop
-returns c = full (c .before .loop .inv) (search needs) ∙ sym (listed-same 0 _ zero64)
+returns c = full (c .before .loop .inv) (omega arith) ∙ sym (listed-same 0 _ zero64)
 
 pub clear-row-spec : {M : Type 1} → statement M
 clear-row-spec =
     tie.close
-    (tie.spec Inv-loop μ-loop loop-holds (search needs) (search needs) (search needs) (search needs) loop-again
-    (search needs) returns)
+    (tie.spec Inv-loop μ-loop loop-holds (omega arith) (omega arith) (omega arith) (omega arith) loop-again
+    (omega arith) returns)

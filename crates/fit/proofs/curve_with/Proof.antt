@@ -1,9 +1,9 @@
 -- `fit::curve_with` meets its contract.
+use native.Mathlib.Omega.{arith}
 use mathlib.Core.Path.{_≡_, sym, ap, _∙_}
 use mathlib.Core.Bool.{Bool, not, _&&_}
 use mathlib.Core.List.{[]}
 use native.Mathlib.Nat.{suc-ne-zero}
-use borrow.Author.Needs.{needs}
 use borrow.Author.Tests.{not-true, not-false}
 use lib.Dec.{ltb}
 use Rattle.refusal.specs.Refusals.{row}
@@ -36,5 +36,5 @@ returns-2 c =
 pub curve-with-spec : {M : Type 1} → statement M
 curve-with-spec =
     tie.close
-    (tie.spec (search needs) (search needs) (search needs) (search needs) (search needs) (search needs) returns
-    (search needs) (search needs) returns-2)
+    (tie.spec (omega arith) (omega arith) (omega arith) (omega arith) (omega arith) (omega arith) returns
+    (omega arith) (omega arith) returns-2)

@@ -10,7 +10,6 @@ use Rattle.solve.specs.Stored.{allFine}
 use Rattle.meaning.proofs.Every.{every-none, every-next}
 use Rattle.fit.specs.Stored.{foundFitRow, foundFitRows}
 use Rattle.fit.proofs.Rows.{Written, none-written, one-more, all-written, found-row-at, found-shaped, found-verdict}
-use borrow.Author.Needs.{needs}
 use Rattle.fit.proofs.fill.Statement.{statement}
 use Rattle.fit.proofs.fill.Tie as tie
 
@@ -25,7 +24,7 @@ abbrev μ-loop : tie.MeasureT-loop
 μ-loop w₀ u p q n fine₀ m r₀ w fine r = n + 2 - r
 
 loop-holds : tie.Need-loop-holds Inv-loop μ-loop
-loop-holds c = (λ M rest e sh. none-written (found-shaped _ _ _ _) sh e, every-none _, search needs, refl)
+loop-holds c = (λ M rest e sh. none-written (found-shaped _ _ _ _) sh e, every-none _, omega arith, refl)
 
 loop-again : tie.Need-loop-again Inv-loop μ-loop
 loop-again c =
@@ -36,7 +35,7 @@ loop-again c =
           let old = l .inv .0 M rest e sh in
           one-more (found-shaped _ _ _ _) sh old t (sym (found-row-at _ _ _ _ (l .r) t)) (call .ensures .held _ rest (old .rows) (old .shape)),
       every-next _ (l .r) (l .inv .1) (call .ensures .judged) (c .both .ensures),
-      search needs,
+      omega arith,
       omega (arith, call .kept),
     )
 
@@ -46,12 +45,12 @@ returns c =
     let n = c .before .before .before .before .args .n in
     let e : l .r ≡ n + 2 = omega arith in
     record {
-      held = λ M rest q sh. all-written (found-shaped _ _ _ _) sh (l .inv .0 M rest q sh) (search needs);
+      held = λ M rest q sh. all-written (found-shaped _ _ _ _) sh (l .inv .0 M rest q sh) (omega arith);
       judged = rw e at (l .inv .1) ∙ found-verdict _ _ _ n;
     }
 
 pub fill-spec : {M : Type 1} → statement M
 fill-spec =
     tie.close
-    (tie.spec Inv-loop μ-loop (search needs) loop-holds (search needs) (search needs) (search needs) (search needs)
-    loop-again (search needs) returns)
+    (tie.spec Inv-loop μ-loop (omega arith) loop-holds (omega arith) (omega arith) (omega arith) (omega arith)
+    loop-again (omega arith) returns)

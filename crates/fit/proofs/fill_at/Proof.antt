@@ -4,7 +4,6 @@ use native.Mathlib.Omega.{arith}
 use denote.Ref.{now}
 use Rattle.solve.proofs.Lists.{row-le}
 use Rattle.solve.proofs.Flat.{back-row}
-use borrow.Author.Needs.{needs}
 use Rattle.fit.proofs.fill_at.Statement.{statement}
 use Rattle.fit.proofs.fill_at.Tie as tie
 
@@ -29,5 +28,5 @@ returns c =
 pub fill-at-spec : {M : Type 1} → statement M
 fill-at-spec =
     tie.close
-    (tie.spec (search needs) (search needs) mul-a add-e mul-system-row (search needs) (search needs)
-    part-system-row-end (search needs) (search needs) returns)
+    (tie.spec (omega arith) (omega arith) mul-a add-e mul-system-row (omega arith) (omega arith)
+    part-system-row-end (omega arith) (omega arith) returns)

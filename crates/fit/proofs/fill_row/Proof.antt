@@ -14,7 +14,6 @@ use Rattle.plane.specs.View.{view}
 use Rattle.fit.specs.System.{spread, withSides}
 use Rattle.fit.specs.Stored.{fourPut, sidesPut, Stored}
 use Rattle.fit.proofs.Six.{six-stored}
-use borrow.Author.Needs.{needs}
 use Rattle.fit.proofs.fill_row.Statement.{statement}
 use Rattle.fit.proofs.fill_row.Tie as tie
 
@@ -27,4 +26,4 @@ returns c =
     six-stored _ (s .args .i) (s .args .m) (view (s .args .b)) (s .pre .2) (s .pre .3) (s .pre .1) clear four sides (ap (λ (n : ℕ). not (ltb n 6)) (c .first-wild .ensures))
 
 pub fill-row-spec : {M : Type 1} → statement M
-fill-row-spec = tie.close (tie.spec (search needs) (search needs) (search needs) (search needs) (search needs) (search needs) (search needs) (search needs) (search needs) (search needs) (search needs) returns)
+fill-row-spec = tie.close (tie.spec (omega arith) (omega arith) (omega arith) (omega arith) (omega arith) (omega arith) (omega arith) (omega arith) (omega arith) (omega arith) (omega arith) returns)

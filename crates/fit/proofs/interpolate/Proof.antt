@@ -2,7 +2,6 @@
 use native.Mathlib.Omega.{arith}
 use denote.Ref.{now}
 use Rattle.fit.proofs.Through.{solved-through}
-use borrow.Author.Needs.{needs}
 use Rattle.fit.proofs.interpolate.Statement.{statement}
 use Rattle.fit.proofs.interpolate.Tie as tie
 
@@ -18,5 +17,5 @@ returns c =
 pub interpolate-spec : {M : Type 1} → statement M
 interpolate-spec =
     tie.close
-    (tie.spec (search needs) (search needs) (search needs) (search needs) (search needs) (search needs) (search needs)
-    (search needs) returns)
+    (tie.spec (omega arith) (omega arith) (omega arith) (omega arith) (omega arith) (omega arith) (omega arith)
+    (omega arith) returns)

@@ -1,7 +1,7 @@
 -- `fit::knot_at` meets its contract: each case of the definition.
+use native.Mathlib.Omega.{arith}
 use borrow.Author.Tests.{lt-ltb, le-ltb}
 use Rattle.fit.specs.Parameters.{knotAt}
-use borrow.Author.Needs.{needs}
 use Rattle.fit.proofs.knot_at.Statement.{statement}
 use Rattle.fit.proofs.knot_at.Tie as tie
 
@@ -24,5 +24,5 @@ returns-4 c = rw (le-ltb _ _ (c .before .before .if1 .left), le-ltb _ _ (c .befo
 pub knot-at-spec : {M : Type 1} → statement M
 knot-at-spec =
     tie.close
-    (tie.spec returns (search needs) (search needs) (search needs) (search needs) returns-2 (search needs) returns-3
+    (tie.spec returns (omega arith) (omega arith) (omega arith) (omega arith) returns-2 (omega arith) returns-3
     returns-4)

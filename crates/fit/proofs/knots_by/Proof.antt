@@ -1,4 +1,5 @@
 -- `fit::knots_by` meets its contract: a turn stores one knot.
+use native.Mathlib.Omega.{arith}
 use mathlib.Core.Path.{refl}
 use Prim.Native.Nat.{_-_}
 use lib.Ieee.{nan}
@@ -6,7 +7,6 @@ use Rattle.meaning.specs.Scalar.{plain}
 use Rattle.meaning.specs.Table.{at1}
 use Rattle.meaning.proofs.Filling.{Filled, empty, filled, full}
 use Rattle.fit.specs.Parameters.{knotAt, knotsBy}
-use borrow.Author.Needs.{needs}
 use Rattle.fit.proofs.knots_by.Statement.{statement}
 use Rattle.fit.proofs.knots_by.Tie as tie
 
@@ -20,14 +20,14 @@ loop-holds : tie.Need-loop-holds Inv-loop μ-loop
 loop-holds c = empty refl
 
 loop-again : tie.Need-loop-again Inv-loop μ-loop
-loop-again c = filled (c .before .before .loop .inv) (search needs) (c .knot-at .ensures)
+loop-again c = filled (c .before .before .loop .inv) (omega arith) (c .knot-at .ensures)
 
 returns : tie.Need-returns Inv-loop μ-loop
 unfolding knotsBy
-returns c = full (c .before .loop .inv) (search needs)
+returns c = full (c .before .loop .inv) (omega arith)
 
 pub knots-by-spec : {M : Type 1} → statement M
 knots-by-spec =
     tie.close
-    (tie.spec Inv-loop μ-loop loop-holds (search needs) (search needs) (search needs) (search needs) (search needs)
+    (tie.spec Inv-loop μ-loop loop-holds (omega arith) (omega arith) (omega arith) (omega arith) (omega arith)
     loop-again returns)

@@ -9,7 +9,6 @@ use Rattle.meaning.proofs.Filling.{Filled, filled}
 use Rattle.fit.specs.Parameters.{sumOf, parameterAt}
 use Rattle.fit.proofs.Sums.{sum-none, sum-turn, parameter-inner, parameter-last, parameters-begin}
 use denote.Ref.{now}
-use borrow.Author.Needs.{needs}
 use Rattle.fit.proofs.parameters.Statement.{statement}
 use Rattle.fit.proofs.parameters.Tie as tie
 
@@ -20,7 +19,7 @@ abbrev μ-loop : tie.MeasureT-loop
 μ-loop s n p₀ last all sum₀ k₀ p sum k = n - 1 - k
 
 loop-holds : tie.Need-loop-holds Inv-loop μ-loop
-loop-holds c = (search needs, search needs, sum-none plain _, parameters-begin plain _ _ 63)
+loop-holds c = (omega arith, omega arith, sum-none plain _, parameters-begin plain _ _ 63)
 
 loop-again : tie.Need-loop-again Inv-loop μ-loop
 loop-again c =
@@ -32,7 +31,7 @@ loop-again c =
     let b = c .before .loop-test .taken in
     let all = c .before .before .before .total .ensures in
     let new = (λ t. plain .over (sum t) (all t)) ∙ parameter-inner plain st (a .n) (l .k) (l .inv .0) b in
-    (search needs, search needs, rw e sum, filled (l .inv .3) (search needs) new)
+    (omega arith, omega arith, rw e sum, filled (l .inv .3) (omega arith) new)
 
 returns : tie.Need-returns Inv-loop μ-loop
 returns c =
@@ -40,10 +39,10 @@ returns c =
     let a = c .before .before .before .args in
     let e : l .k ≡ a .n - 1 = omega arith in
     let f : a .n - 1 + 1 ≡ a .n = omega arith in
-    rw f at (filled (rw e at (l .inv .3)) (search needs) (parameter-last plain (at1 plain (now (a .s))) (a .n) (search needs)))
+    rw f at (filled (rw e at (l .inv .3)) (omega arith) (parameter-last plain (at1 plain (now (a .s))) (a .n) (omega arith)))
 
 pub parameters-spec : {M : Type 1} → statement M
 parameters-spec =
     tie.close
-    (tie.spec Inv-loop μ-loop (search needs) (search needs) loop-holds (search needs) (search needs) (search needs)
-    (search needs) (search needs) (search needs) (search needs) loop-again (search needs) (search needs) returns)
+    (tie.spec Inv-loop μ-loop (omega arith) (omega arith) loop-holds (omega arith) (omega arith) (omega arith)
+    (omega arith) (omega arith) (omega arith) (omega arith) loop-again (omega arith) (omega arith) returns)

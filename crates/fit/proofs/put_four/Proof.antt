@@ -1,4 +1,5 @@
 -- `fit::put_four` meets its contract: a turn puts one number.
+use native.Mathlib.Omega.{arith}
 use mathlib.Core.Path.{_≡_, refl}
 use Prim.Native.Nat.{_-_, _+_, _≤_}
 use lib.ListN.{length, set}
@@ -17,17 +18,17 @@ abbrev μ-loop : tie.MeasureT-loop
 μ-loop t₀ at four j₀ t j = 4 - j
 
 loop-holds : tie.Need-loop-holds Inv-loop μ-loop
-loop-holds c = (first (search needs), refl)
+loop-holds c = (first (omega arith), refl)
 
 loop-again : tie.Need-loop-again Inv-loop μ-loop
-loop-again c = (next (c .before .loop .inv .0) (search needs) refl, search needs)
+loop-again c = (next (c .before .loop .inv .0) (omega arith) refl, search needs)
 
 returns : tie.Need-returns Inv-loop μ-loop
 unfolding fourPut
-returns c = last (c .before .loop .inv .0) (search needs)
+returns c = last (c .before .loop .inv .0) (omega arith)
 
 pub put-four-spec : {M : Type 1} → statement M
 put-four-spec =
     tie.close
-    (tie.spec Inv-loop μ-loop loop-holds (search needs) (search needs) (search needs) (search needs) (search needs)
-    (search needs) (search needs) loop-again (search needs) returns)
+    (tie.spec Inv-loop μ-loop loop-holds (omega arith) (omega arith) (omega arith) (omega arith) (omega arith)
+    (omega arith) (omega arith) loop-again (omega arith) returns)

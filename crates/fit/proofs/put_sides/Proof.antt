@@ -19,4 +19,4 @@ unfolding sidesPut
 returns c = refl
 
 pub put-sides-spec : {M : Type 1} → statement M
-put-sides-spec = tie.close (tie.spec (search needs) (search needs) (search needs) (search needs) slice-write-t-2 same-length returns)
+put-sides-spec = tie.close (tie.spec (omega arith) (omega arith) (omega arith) (omega arith) slice-write-t-2 same-length returns)

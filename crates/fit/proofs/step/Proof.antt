@@ -1,11 +1,11 @@
 -- `fit::step` meets its contract: the root of the root, in the order of the operations.
+use native.Mathlib.Omega.{arith}
 use mathlib.Core.Path.{ap, _∙_}
 use lib.Ieee.{Float}
 use Rattle.meaning.specs.Root.{rootOf}
 use Rattle.meaning.specs.Scalar.{plain}
 use Rattle.plane.specs.Vector.{Vector, subV, dotV}
 use Rattle.fit.specs.Parameters.{chordSquare, stepAt}
-use borrow.Author.Needs.{needs}
 use Rattle.fit.proofs.step.Statement.{statement}
 use Rattle.fit.proofs.step.Tie as tie
 
@@ -22,5 +22,5 @@ returns c =
 pub step-spec : {M : Type 1} → statement M
 step-spec =
     tie.close
-    (tie.spec (search needs) (search needs) (search needs) (search needs) (search needs) (search needs) (search needs)
+    (tie.spec (omega arith) (omega arith) (omega arith) (omega arith) (omega arith) (omega arith) (omega arith)
     returns)

@@ -1,8 +1,8 @@
 -- `fit::system_row` meets its contract: each case of the definition.
+use native.Mathlib.Omega.{arith}
 use borrow.Author.Tests.{eq-eqb, ne-eqb, le-leb, lt-leb}
 use Rattle.fit.specs.System.{fitRow}
 use Rattle.fit.specs.Stored.{foundRow, foundFitRow}
-use borrow.Author.Needs.{needs}
 use Rattle.fit.proofs.system_row.Statement.{statement}
 use Rattle.fit.proofs.system_row.Tie as tie
 
@@ -24,5 +24,5 @@ returns-3 c = let t = c .before .before .before .before in rw (ne-eqb _ _ (t .be
 pub system-row-spec : {M : Type 1} → statement M
 system-row-spec =
     tie.close
-    (tie.spec (search needs) (search needs) (search needs) returns (search needs) (search needs) (search needs)
-    (search needs) (search needs) (search needs) returns-2 (search needs) (search needs) returns-3)
+    (tie.spec (omega arith) (omega arith) (omega arith) returns (omega arith) (omega arith) (omega arith)
+    (omega arith) (omega arith) (omega arith) returns-2 (omega arith) (omega arith) returns-3)

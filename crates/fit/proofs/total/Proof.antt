@@ -1,11 +1,11 @@
 -- `fit::total` meets its contract: a turn adds one step.
+use native.Mathlib.Omega.{arith}
 use Prim.Native.Nat.{_-_}
 use mathlib.Core.Path.{refl}
 use Rattle.meaning.specs.Scalar.{plain}
 use Rattle.meaning.specs.Table.{at1}
 use Rattle.meaning.proofs.For.{At, first, next, last}
 use Rattle.fit.specs.Parameters.{sumOf}
-use borrow.Author.Needs.{needs}
 use Rattle.fit.proofs.total.Statement.{statement}
 use Rattle.fit.proofs.total.Tie as tie
 
@@ -16,17 +16,17 @@ abbrev μ-loop : tie.MeasureT-loop
 μ-loop s k sum₀ i₀ sum i = k - i
 
 loop-holds : tie.Need-loop-holds Inv-loop μ-loop
-loop-holds c = first (search needs)
+loop-holds c = first (omega arith)
 
 loop-again : tie.Need-loop-again Inv-loop μ-loop
-loop-again c = next (c .before .before .loop .inv) (search needs) refl
+loop-again c = next (c .before .before .loop .inv) (omega arith) refl
 
 returns : tie.Need-returns Inv-loop μ-loop
 unfolding sumOf
-returns c = last (c .before .loop .inv) (search needs)
+returns c = last (c .before .loop .inv) (omega arith)
 
 pub total-spec : {M : Type 1} → statement M
 total-spec =
     tie.close
-    (tie.spec Inv-loop μ-loop loop-holds (search needs) (search needs) (search needs) (search needs) loop-again
+    (tie.spec Inv-loop μ-loop loop-holds (omega arith) (omega arith) (omega arith) (omega arith) loop-again
     returns)

@@ -13,7 +13,6 @@ use Rattle.meaning.specs.Nowhere.{Nowhere}
 use Rattle.meaning.proofs.Searching.{nowhere-yet, nowhere-more}
 use Rattle.meaning.proofs.Tests.{and-left, and-right}
 use Rattle.knots.specs.Rules.{knot, unfit}
-use borrow.Author.Needs.{needs}
 use Rattle.knots.proofs.all_fit.Statement.{statement}
 use Rattle.knots.proofs.all_fit.Tie as tie
 
@@ -32,7 +31,7 @@ next-fit ks i g h k = rw (h, lt-ltb 0 i g, not-true (lt (knot ks i) (knot ks (i 
 loop-holds : tie.Need-loop-holds Inv-loop μ-loop
 loop-holds c =
     let ks = now (c .before .before .before .args .knots) in
-    (search needs, search needs, search needs, λ e. nowhere-more (unfit ks) 0 0 (nowhere-yet (unfit ks) 0) (first-fit ks (sym (c .is-finite .ensures) ∙ e)))
+    (omega arith, omega arith, omega arith, λ e. nowhere-more (unfit ks) 0 0 (nowhere-yet (unfit ks) 0) (first-fit ks (sym (c .is-finite .ensures) ∙ e)))
 
 loop-again : tie.Need-loop-again Inv-loop μ-loop
 loop-again c =
@@ -41,7 +40,7 @@ loop-again c =
     let ks = now (f .before .before .before .before .before .before .before .args .knots) in (
       omega arith,
       omega arith,
-      search needs,
+      omega arith,
       λ e.
           nowhere-more (unfit ks) 0 (l .i) (l .inv .3 (and-left (l .fine) _ (and-left (l .fine && f .is-finite2 .result) _ e)))
           (next-fit ks (l .i) (omega arith) (sym (f .is-finite2 .ensures) ∙ and-right (l .fine) _ (and-left (l .fine && f .is-finite2 .result) _ e))
@@ -54,5 +53,5 @@ returns c = λ e j g l. c .before .loop .inv .3 e j g (omega arith)
 pub all-fit-spec : {M : Type 1} → statement M
 all-fit-spec =
     tie.close
-    (tie.spec Inv-loop μ-loop (search needs) (search needs) loop-holds (search needs) (search needs) (search needs) (search needs)
-    (search needs) (search needs) (search needs) (search needs) (search needs) (search needs) loop-again returns)
+    (tie.spec Inv-loop μ-loop (omega arith) (omega arith) loop-holds (omega arith) (omega arith) (omega arith) (omega arith)
+    (omega arith) (omega arith) (omega arith) (omega arith) (omega arith) (omega arith) loop-again returns)

@@ -1,8 +1,8 @@
 -- `knots::check` meets its contract: the rows on the handles, then the row on knots with fit points, then the list's.
+use native.Mathlib.Omega.{arith}
 use mathlib.Core.Path.{_∙_}
 use mathlib.Core.Bool.{false}
 use mathlib.Core.List.{[]}
-use borrow.Author.Needs.{needs}
 use borrow.Author.Tests.{not-true, not-false}
 use Rattle.knots.proofs.Refused.{check-refused, check-unlisted, check-fit, check-room, check-list}
 use Rattle.knots.proofs.check.Statement.{statement}
@@ -37,5 +37,5 @@ returns-4 c =
 pub check-spec : {M : Type 1} → statement M
 check-spec =
     tie.close
-    (tie.spec (search needs) returns (search needs) returns-2 (search needs) refused-list-requires (search needs)
-    (search needs) returns-3 returns-4)
+    (tie.spec (omega arith) returns (omega arith) returns-2 (omega arith) refused-list-requires (omega arith)
+    (omega arith) returns-3 returns-4)

@@ -1,5 +1,4 @@
 -- `knots::is_unfit` meets its contract.
-use borrow.Author.Needs.{needs}
 use Prim.Native.Nat.{ℕ, _<_}
 use mathlib.Core.Path.{_≡_}
 use native.Mathlib.Omega.{arith}
@@ -24,5 +23,5 @@ returns-3 c =
 pub is-unfit-spec : {M : Type 1} → statement M
 is-unfit-spec =
     tie.close
-    (tie.spec (search needs) (search needs) (search needs) returns returns-2 (search needs) (search needs)
-    (search needs) (search needs) (search needs) returns-3)
+    (tie.spec (omega arith) (omega arith) (omega arith) returns returns-2 (omega arith) (omega arith)
+    (omega arith) (omega arith) (omega arith) returns-3)

@@ -10,7 +10,6 @@ use Rattle.meaning.specs.Nowhere.{Nowhere}
 use Rattle.meaning.proofs.Searching.{nowhere-yet, nowhere-more}
 use Rattle.meaning.proofs.Tests.{and-left, and-right}
 use Rattle.knots.specs.Repeat.{repeats}
-use borrow.Author.Needs.{needs}
 use Rattle.knots.proofs.none_repeats.Statement.{statement}
 use Rattle.knots.proofs.none_repeats.Tie as tie
 
@@ -21,7 +20,7 @@ abbrev μ-loop : tie.MeasureT-loop
 μ-loop knots n fine₀ j₀ fine j = n - j
 
 loop-holds : tie.Need-loop-holds Inv-loop μ-loop
-loop-holds c = (search needs, search needs, λ e. nowhere-yet _ 1)
+loop-holds c = (omega arith, omega arith, λ e. nowhere-yet _ 1)
 
 loop-again : tie.Need-loop-again Inv-loop μ-loop
 unfolding ne
@@ -36,5 +35,5 @@ returns c = λ e j g l. c .before .loop .inv .2 e j g (omega arith)
 pub none-repeats-spec : {M : Type 1} → statement M
 none-repeats-spec =
     tie.close
-    (tie.spec Inv-loop μ-loop loop-holds (search needs) (search needs) (search needs) (search needs) (search needs)
-    (search needs) (search needs) loop-again returns)
+    (tie.spec Inv-loop μ-loop loop-holds (omega arith) (omega arith) (omega arith) (omega arith) (omega arith)
+    (omega arith) (omega arith) loop-again returns)

@@ -1,5 +1,5 @@
 -- `knots::refused_ends` meets its contract: each search tells its row, and the last of them the row that counts repeats.
-use borrow.Author.Needs.{needs}
+use native.Mathlib.Omega.{arith}
 use mathlib.Core.Path.{_∙_}
 use denote.Ref.{now}
 use Rattle.knots.proofs.LastRows.{first-differ, last-differ, no-interval, too-many, none-applies}
@@ -50,6 +50,6 @@ returns-5 c =
 pub refused-ends-spec : {M : Type 1} → statement M
 refused-ends-spec =
     tie.close
-    (tie.spec (search needs) (search needs) (search needs) (search needs) returns (search needs) (search needs)
-    returns-2 (search needs) (search needs) (search needs) (search needs) returns-3 (search needs) (search needs)
-    returns-4 (search needs) returns-5)
+    (tie.spec (omega arith) (omega arith) (omega arith) (omega arith) returns (omega arith) (omega arith)
+    returns-2 (omega arith) (omega arith) (omega arith) (omega arith) returns-3 (omega arith) (omega arith)
+    returns-4 (omega arith) returns-5)

@@ -1,6 +1,6 @@
 -- `knots::refused_handles` meets its contract: each branch tells the rows before its own.
+use native.Mathlib.Omega.{arith}
 use mathlib.Core.Path.{_∙_}
-use borrow.Author.Needs.{needs}
 use Rattle.knots.proofs.Refused.{few, no-cubic, control-many, control-room, fit-many, fit-room}
 use Rattle.knots.proofs.refused_handles.Statement.{statement}
 use Rattle.knots.proofs.refused_handles.Tie as tie
@@ -32,5 +32,5 @@ returns-6 c = let b = c .before in let m = b .before in c .by6 .ensures ∙ fit-
 pub refused-handles-spec : {M : Type 1} → statement M
 refused-handles-spec =
     tie.close
-    (tie.spec (search needs) returns (search needs) (search needs) returns-2 (search needs) returns-3 (search needs)
-    (search needs) (search needs) returns-4 (search needs) returns-5 returns-6)
+    (tie.spec (omega arith) returns (omega arith) (omega arith) returns-2 (omega arith) returns-3 (omega arith)
+    (omega arith) (omega arith) returns-4 (omega arith) returns-5 returns-6)

@@ -1,5 +1,5 @@
 -- `knots::refused_list` meets its contract.
-use borrow.Author.Needs.{needs}
+use native.Mathlib.Omega.{arith}
 use mathlib.Core.Path.{_∙_}
 use denote.Ref.{now}
 use lib.ListN.{length}
@@ -32,5 +32,5 @@ returns-3 c = c .refused-ends .ensures
 pub refused-list-spec : {M : Type 1} → statement M
 refused-list-spec =
     tie.close
-    (tie.spec (search needs) (search needs) returns (search needs) (search needs) returns-2 refused-ends-requires
+    (tie.spec (omega arith) (omega arith) returns (omega arith) (omega arith) returns-2 refused-ends-requires
     returns-3)

@@ -1,5 +1,5 @@
 -- `knots::seek_repeat` meets its contract: each knot passed differs from the third after it.
-use borrow.Author.Needs.{needs}
+use native.Mathlib.Omega.{arith}
 use Prim.Native.Nat.{_-_}
 use Rattle.knots.specs.Repeat.{repeats}
 use Rattle.meaning.proofs.Searching.{Passed, passed, onward, found, ended}
@@ -13,19 +13,19 @@ abbrev μ-loop : tie.MeasureT-loop
 μ-loop knots n j₀ j = n - j
 
 loop-holds : tie.Need-loop-holds Inv-loop μ-loop
-loop-holds c = passed (search needs)
+loop-holds c = passed (omega arith)
 
 returns : tie.Need-returns Inv-loop μ-loop
-returns c = found (c .before .before .before .before .loop .inv) (search needs) (c .if1 .taken)
+returns c = found (c .before .before .before .before .loop .inv) (omega arith) (c .if1 .taken)
 
 loop-again : tie.Need-loop-again Inv-loop μ-loop
-loop-again c = onward (c .before .before .before .before .loop .inv) (search needs) (c .if1 .left)
+loop-again c = onward (c .before .before .before .before .loop .inv) (omega arith) (c .if1 .left)
 
 returns-2 : tie.Need-returns-2 Inv-loop μ-loop
-returns-2 c = ended (c .before .loop .inv) (search needs)
+returns-2 c = ended (c .before .loop .inv) (omega arith)
 
 pub seek-repeat-spec : {M : Type 1} → statement M
 seek-repeat-spec =
     tie.close
-    (tie.spec Inv-loop μ-loop loop-holds (search needs) (search needs) (search needs) (search needs) (search needs)
-    returns (search needs) (search needs) loop-again returns-2)
+    (tie.spec Inv-loop μ-loop loop-holds (omega arith) (omega arith) (omega arith) (omega arith) (omega arith)
+    returns (omega arith) (omega arith) loop-again returns-2)

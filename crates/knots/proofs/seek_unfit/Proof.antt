@@ -1,5 +1,5 @@
 -- `knots::seek_unfit` meets its contract: each knot passed is finite and not below the one before.
-use borrow.Author.Needs.{needs}
+use native.Mathlib.Omega.{arith}
 use mathlib.Core.Path.{_≡_, sym, _∙_}
 use Prim.Native.Nat.{_-_, zero-le}
 use lib.ListN.{length}
@@ -15,19 +15,19 @@ abbrev μ-loop : tie.MeasureT-loop
 μ-loop knots end i₀ i = end - i
 
 loop-holds : tie.Need-loop-holds Inv-loop μ-loop
-loop-holds c = (search needs, passed zero-le)
+loop-holds c = (omega arith, passed zero-le)
 
 returns : tie.Need-returns Inv-loop μ-loop
-returns c = found (c .before .before .before .loop .inv .1) (search needs) (sym (c .before .is-unfit .ensures) ∙ c .if1 .taken)
+returns c = found (c .before .before .before .loop .inv .1) (omega arith) (sym (c .before .is-unfit .ensures) ∙ c .if1 .taken)
 
 loop-again : tie.Need-loop-again Inv-loop μ-loop
 loop-again c =
-    (c .before .before .before .loop .inv .0, onward (c .before .before .before .loop .inv .1) (search needs) (sym (c .before .is-unfit .ensures) ∙ c .if1 .left))
+    (c .before .before .before .loop .inv .0, onward (c .before .before .before .loop .inv .1) (omega arith) (sym (c .before .is-unfit .ensures) ∙ c .if1 .left))
 
 returns-2 : tie.Need-returns-2 Inv-loop μ-loop
-returns-2 c = c .before .loop .inv .0 ∙ ended (c .before .loop .inv .1) (search needs)
+returns-2 c = c .before .loop .inv .0 ∙ ended (c .before .loop .inv .1) (omega arith)
 
 pub seek-unfit-spec : {M : Type 1} → statement M
 seek-unfit-spec =
     tie.close
-    (tie.spec Inv-loop μ-loop loop-holds (search needs) returns (search needs) (search needs) loop-again returns-2)
+    (tie.spec Inv-loop μ-loop loop-holds (omega arith) returns (omega arith) (omega arith) loop-again returns-2)

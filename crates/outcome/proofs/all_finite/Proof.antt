@@ -10,7 +10,6 @@ use Rattle.meaning.specs.Table.{at1}
 use Rattle.meaning.specs.Nowhere.{Nowhere}
 use Rattle.meaning.proofs.Searching.{nowhere-yet, nowhere-more}
 use Rattle.meaning.proofs.Tests.{and-left, and-right}
-use borrow.Author.Needs.{needs}
 use Rattle.outcome.proofs.all_finite.Statement.{statement}
 use Rattle.outcome.proofs.all_finite.Tie as tie
 
@@ -21,7 +20,7 @@ abbrev μ-loop : tie.MeasureT-loop
 μ-loop a k fine₀ i₀ fine i = k - i
 
 loop-holds : tie.Need-loop-holds Inv-loop μ-loop
-loop-holds c = (search needs, λ e. nowhere-yet _ 0)
+loop-holds c = (omega arith, λ e. nowhere-yet _ 0)
 
 loop-again : tie.Need-loop-again Inv-loop μ-loop
 loop-again c =
@@ -37,4 +36,4 @@ returns : tie.Need-returns Inv-loop μ-loop
 returns c = λ e j g l. c .before .loop .inv .1 e j g (omega arith)
 
 pub all-finite-spec : {M : Type 1} → statement M
-all-finite-spec = tie.close (tie.spec Inv-loop μ-loop loop-holds (search needs) (search needs) (search needs) (search needs) (search needs) loop-again returns)
+all-finite-spec = tie.close (tie.spec Inv-loop μ-loop loop-holds (omega arith) (omega arith) (omega arith) (omega arith) (omega arith) loop-again returns)

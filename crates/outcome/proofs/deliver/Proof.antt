@@ -1,7 +1,7 @@
 -- `outcome::deliver` meets its contract: there is room, each number is finite, and then they are put.
+use native.Mathlib.Omega.{arith}
 use mathlib.Core.Path.{_≡_, _∙_}
 use mathlib.Core.Bool.{false}
-use borrow.Author.Needs.{needs}
 use borrow.Author.Tests.{lt-ltb, le-ltb}
 use denote.Ref.{now}
 use Rattle.meaning.proofs.Searching.{told-some, told-none}
@@ -31,5 +31,5 @@ returns-3 c =
 pub deliver-spec : {M : Type 1} → statement M
 deliver-spec =
     tie.close
-    (tie.spec (search needs) returns (search needs) (search needs) returns-2 (search needs) (search needs)
-    (search needs) returns-3)
+    (tie.spec (omega arith) returns (omega arith) (omega arith) returns-2 (omega arith) (omega arith)
+    (omega arith) returns-3)

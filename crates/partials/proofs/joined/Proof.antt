@@ -1,8 +1,8 @@
 -- `partials::joined` meets its contract, arm by arm.
+use native.Mathlib.Omega.{arith}
 use mathlib.Core.Path.{_≡_, sym, ap}
 use Rattle.partials.specs.declared.Rule.{Rule}
 use Rattle.partials.specs.Rule.{ruleOf}
-use borrow.Author.Needs.{needs}
 use Rattle.partials.proofs.joined.Statement.{statement}
 use Rattle.partials.proofs.joined.Tie as tie
 
@@ -12,7 +12,7 @@ same-rule : {o p : Rule} (c : tie.Start) → o ≡ p
 same-rule c e = ap (λ o. ruleOf o (c .args .a) (c .args .b) (c .args .x) (c .args .y)) (sym e)
 
 enum-told : tie.Need-enum-told
-enum-told c = search needs
+enum-told c = omega arith
 
 returns : tie.Need-returns
 returns c = same-rule (c .before .before) (c .enum-told .given .1)
@@ -29,4 +29,4 @@ returns-4 c = same-rule (c .before .before) (c .enum-told4 .given .1)
 pub joined-spec : {M : Type 1} → statement M
 joined-spec =
     tie.close
-    (tie.spec enum-told (search needs) (search needs) (search needs) returns returns-2 returns-3 returns-4)
+    (tie.spec enum-told (omega arith) (omega arith) (omega arith) returns returns-2 returns-3 returns-4)

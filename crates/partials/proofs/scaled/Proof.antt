@@ -1,10 +1,10 @@
 -- `partials::scaled` meets its contract: the loop stores one partial in each turn.
+use native.Mathlib.Omega.{arith}
 use Prim.Native.Nat.{_-_}
 use lib.ListN.{set}
 use lib.Ieee.{binary64, mul}
 use Rattle.meaning.proofs.For.{At, first, next, last}
 use Rattle.partials.specs.Dual.{partAt, partials}
-use borrow.Author.Needs.{needs}
 use Rattle.partials.proofs.scaled.Statement.{statement}
 use Rattle.partials.proofs.scaled.Tie as tie
 
@@ -15,17 +15,17 @@ abbrev μ-loop : tie.MeasureT-loop
 μ-loop a n f g₀ k₀ g k = n - k
 
 loop-holds : tie.Need-loop-holds Inv-loop μ-loop
-loop-holds c = first (search needs)
+loop-holds c = first (omega arith)
 
 loop-again : tie.Need-loop-again Inv-loop μ-loop
-loop-again c = next (c .before .before .loop .inv) (search needs) (rw (c .part .ensures))
+loop-again c = next (c .before .before .loop .inv) (omega arith) (rw (c .part .ensures))
 
 returns : tie.Need-returns Inv-loop μ-loop
 unfolding partials
-returns c = last (c .before .loop .inv) (search needs)
+returns c = last (c .before .loop .inv) (omega arith)
 
 pub scaled-spec : {M : Type 1} → statement M
 scaled-spec =
     tie.close
-    (tie.spec Inv-loop μ-loop loop-holds (search needs) (search needs) (search needs) (search needs) (search needs)
+    (tie.spec Inv-loop μ-loop loop-holds (omega arith) (omega arith) (omega arith) (omega arith) (omega arith)
     loop-again returns)

@@ -1,6 +1,6 @@
 -- `partials::zip` meets its contract.
+use native.Mathlib.Omega.{arith}
 use Rattle.partials.specs.Dual.{zipDv}
-use borrow.Author.Needs.{needs}
 use Rattle.partials.proofs.zip.Statement.{statement}
 use Rattle.partials.proofs.zip.Tie as tie
 
@@ -12,4 +12,4 @@ returns c =
 pub zip-spec : {M : Type 1} → statement M
 zip-spec =
     tie.close
-    (tie.spec (search needs) (search needs) (search needs) (search needs) returns)
+    (tie.spec (omega arith) (omega arith) (omega arith) (omega arith) returns)

@@ -1,5 +1,5 @@
 -- `point::answer_point` meets its contract: the tests of what is asked, then the numbers delivered.
-use borrow.Author.Needs.{needs}
+use native.Mathlib.Omega.{arith}
 use borrow.Author.Tests.{lt-ltb, le-ltb}
 use Rattle.outcome.proofs.Doors.{leaves, stop, pass, not-told}
 use Rattle.point.proofs.answer_point.Statement.{statement}
@@ -23,5 +23,5 @@ returns-3 c =
 pub answer-point-spec : {M : Type 1} → statement M
 answer-point-spec =
     tie.close
-    (tie.spec (search needs) (search needs) returns (search needs) returns-2 (search needs) (search needs)
-    (search needs) (search needs) returns-3)
+    (tie.spec (omega arith) (omega arith) returns (omega arith) returns-2 (omega arith) (omega arith)
+    (omega arith) (omega arith) returns-3)

@@ -1,7 +1,7 @@
 -- `point::answer_tangent` meets its contract: the test of the parameter, then the numbers delivered.
+use native.Mathlib.Omega.{arith}
 use mathlib.Core.Path.{_≡_}
 use mathlib.Core.List.{List, [], _∷_}
-use borrow.Author.Needs.{needs}
 use denote.Ref.{now}
 use lib.Ieee.{Float}
 use Rattle.meaning.specs.Scalar.{plain}
@@ -35,5 +35,5 @@ returns-2 c =
 pub answer-tangent-spec : {M : Type 1} → statement M
 answer-tangent-spec =
     tie.close
-    (tie.spec (search needs) (search needs) returns (search needs) (search needs) (search needs) (search needs)
-    (search needs) (search needs) (search needs) (search needs) returns-2)
+    (tie.spec (omega arith) (omega arith) returns (omega arith) (omega arith) (omega arith) (omega arith)
+    (omega arith) (omega arith) (omega arith) (omega arith) returns-2)

@@ -1,6 +1,6 @@
 -- `point::evaluate` meets its contract: the rules of the record, then the answer; the promises follow from it.
+use native.Mathlib.Omega.{arith}
 use mathlib.Core.Path.{sym, _∙_, subst}
-use borrow.Author.Needs.{needs}
 use denote.Ref.{now}
 use lib.Dec.{T}
 use Rattle.refusal.proofs.Rows.{number-of}
@@ -37,4 +37,4 @@ returns-2 c =
     (now (s .args .out)) (o .orders .ensures) (c .before .before .answer-point .ensures))
 
 pub evaluate-spec : {M : Type 1} → statement M
-evaluate-spec = tie.close (tie.spec (search needs) returns (search needs) (search needs) (search needs) returns-2)
+evaluate-spec = tie.close (tie.spec (omega arith) returns (omega arith) (omega arith) (omega arith) returns-2)

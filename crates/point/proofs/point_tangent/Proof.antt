@@ -1,6 +1,6 @@
 -- `point::point_tangent` meets its contract: the rules of the record, then the answer; the promises follow from it.
+use native.Mathlib.Omega.{arith}
 use mathlib.Core.Path.{sym, _∙_, subst}
-use borrow.Author.Needs.{needs}
 use denote.Ref.{now}
 use lib.Dec.{T}
 use Rattle.refusal.proofs.Rows.{number-of}
@@ -37,4 +37,4 @@ returns-2 c =
     (o .orders .ensures) (c .before .before .answer-tangent .ensures))
 
 pub point-tangent-spec : {M : Type 1} → statement M
-point-tangent-spec = tie.close (tie.spec (search needs) returns (search needs) (search needs) (search needs) returns-2)
+point-tangent-spec = tie.close (tie.spec (omega arith) returns (omega arith) (omega arith) (omega arith) returns-2)

@@ -1,6 +1,6 @@
 -- `point::point_tangent_slices` meets its contract: the rules of the slices, then the answer; the promises follow from it.
+use native.Mathlib.Omega.{arith}
 use mathlib.Core.Path.{sym, _∙_, subst}
-use borrow.Author.Needs.{needs}
 use denote.Ref.{now}
 use lib.Dec.{T}
 use Rattle.refusal.proofs.Rows.{number-of}
@@ -43,4 +43,4 @@ returns-2 c =
     (o .orders-slices .ensures ∙ slices-found coords ks passed (a .t) 1) (c .before .before .answer-tangent .ensures))
 
 pub point-tangent-slices-spec : {M : Type 1} → statement M
-point-tangent-slices-spec = tie.close (tie.spec (search needs) returns (search needs) (search needs) (search needs) returns-2)
+point-tangent-slices-spec = tie.close (tie.spec (omega arith) returns (omega arith) (omega arith) (omega arith) returns-2)

@@ -25,7 +25,7 @@ part-answer-point-end : tie.Need-part-answer-point-end
 part-answer-point-end c = omega (arith, ends (c .before .before .args .k) (c .before .before .pre))
 
 slice-write-refusals : tie.Need-slice-write-refusals
-slice-write-refusals c = search needs
+slice-write-refusals c = omega arith
 
 returns : tie.Need-returns
 returns c =
@@ -39,5 +39,5 @@ returns c =
 pub answer-at-spec : {M : Type 1} → statement M
 answer-at-spec =
     tie.close
-    (tie.spec add-w mul-w mul-a add-e mul-answer-point (search needs) (search needs)
-    part-answer-point-end (search needs) (search needs) slice-write-refusals (search needs) (search needs) returns)
+    (tie.spec add-w mul-w mul-a add-e mul-answer-point (omega arith) (omega arith)
+    part-answer-point-end (omega arith) (omega arith) slice-write-refusals (omega arith) (search needs) returns)

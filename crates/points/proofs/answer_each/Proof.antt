@@ -1,4 +1,5 @@
 -- `points::answer_each` meets its contract: a turn answers one parameter.
+use native.Mathlib.Omega.{arith}
 use mathlib.Core.List.{List}
 use Prim.Native.Nat.{ℕ, _-_}
 use lib.Ieee.{Float}
@@ -6,7 +7,6 @@ use Rattle.meaning.specs.Scalar.{plain}
 use Rattle.span.specs.Counting.{countedOf}
 use Rattle.evaluate.specs.Point.{ordersOf}
 use Rattle.points.proofs.Turns.{Turned, turned-first, turned-fits, turned-next, turned-all}
-use borrow.Author.Needs.{needs}
 use Rattle.points.proofs.answer_each.Statement.{statement}
 use Rattle.points.proofs.answer_each.Tie as tie
 
@@ -20,7 +20,7 @@ abbrev μ-loop : tie.MeasureT-loop
 μ-loop u n xs ys ts order out₀ refusals₀ count k₀ out refusals k = count - k
 
 loop-holds : tie.Need-loop-holds Inv-loop μ-loop
-loop-holds c = turned-first (search needs)
+loop-holds c = turned-first (omega arith)
 
 answer-at-requires : tie.Need-answer-at-requires Inv-loop μ-loop
 answer-at-requires c κs =
@@ -40,5 +40,5 @@ returns c = turned-all (c .before .loop .inv) (c .loop-test .left)
 pub answer-each-spec : {M : Type 1} → statement M
 answer-each-spec =
     tie.close
-    (tie.spec Inv-loop μ-loop loop-holds (search needs) (search needs) (search needs) (search needs) (search needs) answer-at-requires (search needs)
-    (search needs) loop-again (search needs) (search needs) returns)
+    (tie.spec Inv-loop μ-loop loop-holds (omega arith) (omega arith) (omega arith) (omega arith) (omega arith) answer-at-requires (omega arith)
+    (omega arith) loop-again (omega arith) (omega arith) returns)

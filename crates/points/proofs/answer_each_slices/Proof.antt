@@ -1,10 +1,10 @@
 -- `points::answer_each_slices` meets its contract: a turn answers one parameter.
+use native.Mathlib.Omega.{arith}
 use mathlib.Core.List.{List}
 use Prim.Native.Nat.{ℕ, _-_}
 use lib.Ieee.{Float}
 use Rattle.evaluate.specs.Piece.{sliceOrders}
 use Rattle.points.proofs.Turns.{Turned, turned-first, turned-fits, turned-next, turned-all}
-use borrow.Author.Needs.{needs}
 use Rattle.points.proofs.answer_each_slices.Statement.{statement}
 use Rattle.points.proofs.answer_each_slices.Tie as tie
 
@@ -18,7 +18,7 @@ abbrev μ-loop : tie.MeasureT-loop
 μ-loop knots coords ts order out₀ refusals₀ count k₀ out refusals k = count - k
 
 loop-holds : tie.Need-loop-holds Inv-loop μ-loop
-loop-holds c = turned-first (search needs)
+loop-holds c = turned-first (omega arith)
 
 answer-at-requires : tie.Need-answer-at-requires Inv-loop μ-loop
 answer-at-requires c κs =
@@ -38,5 +38,5 @@ returns c = turned-all (c .before .loop .inv) (c .loop-test .left)
 pub answer-each-slices-spec : {M : Type 1} → statement M
 answer-each-slices-spec =
     tie.close
-    (tie.spec Inv-loop μ-loop loop-holds (search needs) (search needs) (search needs) (search needs) (search needs) answer-at-requires (search needs)
-    (search needs) loop-again (search needs) (search needs) returns)
+    (tie.spec Inv-loop μ-loop loop-holds (omega arith) (omega arith) (omega arith) (omega arith) (omega arith) answer-at-requires (omega arith)
+    (omega arith) loop-again (omega arith) (omega arith) returns)

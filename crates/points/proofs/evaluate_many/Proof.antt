@@ -1,6 +1,6 @@
 -- `points::evaluate_many` meets its contract: the rules of the record, those of the call, then each parameter; the promises follow from it.
+use native.Mathlib.Omega.{arith}
 use mathlib.Core.Path.{sym, _∙_}
-use borrow.Author.Needs.{needs}
 use denote.Ref.{now}
 use lib.ListN.{length}
 use Rattle.meaning.specs.Scalar.{plain}
@@ -58,4 +58,4 @@ returns-3 c =
 pub evaluate-many-spec : {M : Type 1} → statement M
 evaluate-many-spec =
     tie.close
-    (tie.spec (search needs) returns (search needs) returns-2 answer-each-requires (search needs) (search needs) returns-3)
+    (tie.spec (omega arith) returns (omega arith) returns-2 answer-each-requires (omega arith) (omega arith) returns-3)

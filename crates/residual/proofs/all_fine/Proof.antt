@@ -1,6 +1,6 @@
 -- `residual::all_fine` meets its contract.
+use native.Mathlib.Omega.{arith}
 use Rattle.residual.proofs.Rows.{three-fine}
-use borrow.Author.Needs.{needs}
 use Rattle.residual.proofs.all_fine.Statement.{statement}
 use Rattle.residual.proofs.all_fine.Tie as tie
 
@@ -13,4 +13,4 @@ returns c =
 pub all-fine-spec : {M : Type 1} → statement M
 all-fine-spec =
     tie.close
-    (tie.spec (search needs) (search needs) (search needs) (search needs) (search needs) returns)
+    (tie.spec (omega arith) (omega arith) (omega arith) (omega arith) (omega arith) returns)

@@ -1,11 +1,11 @@
 -- `residual::answer` meets its contract.
+use native.Mathlib.Omega.{arith}
 use mathlib.Core.Path.{_≡_, ap, _∙_}
 use mathlib.Core.Bool.{Bool, _&&_}
 use Rattle.partials.specs.Dual.{dual}
 use Rattle.outcome.proofs.Doors.{stop, pass, done, not-told}
 use Rattle.solve.specs.Stored.{allFine}
 use Rattle.residual.specs.Piece.{inOrder}
-use borrow.Author.Needs.{needs}
 use Rattle.residual.proofs.answer.Statement.{statement}
 use Rattle.residual.proofs.answer.Tie as tie
 
@@ -29,5 +29,5 @@ returns-2 c =
 pub answer-spec : {M : Type 1} → statement M
 answer-spec =
     tie.close
-    (tie.spec (search needs) (search needs) (search needs) returns (search needs) (search needs) (search needs)
-    (search needs) (search needs) returns-2)
+    (tie.spec (omega arith) (omega arith) (omega arith) returns (omega arith) (omega arith) (omega arith)
+    (omega arith) (omega arith) returns-2)

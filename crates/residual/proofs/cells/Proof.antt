@@ -4,7 +4,6 @@ use native.Mathlib.Omega.{arith}
 use Prim.Native.Nat.{_+_, _*_, _/_, _≤_}
 use denote.Ref.{now}
 use lib.ListN.{length}
-use borrow.Author.Needs.{needs}
 use Rattle.residual.proofs.cells.Statement.{statement}
 use Rattle.residual.proofs.cells.Tie as tie
 
@@ -18,7 +17,7 @@ mul-result : tie.Need-mul-result
 mul-result c = omega (arith, few c)
 
 returns : tie.Need-returns
-returns c = rw (c .enum-told .given .1) (search needs)
+returns c = rw (c .enum-told .given .1) (omega arith)
 
 returns-2 : tie.Need-returns-2
 returns-2 c = (rw (c .enum-told2 .given .1), few c)
@@ -26,4 +25,4 @@ returns-2 c = (rw (c .enum-told2 .given .1), few c)
 pub cells-spec : {M : Type 1} → statement M
 cells-spec =
     tie.close
-    (tie.spec (search needs) (search needs) (search needs) (search needs) (search needs) mul-result returns returns-2)
+    (tie.spec (omega arith) (omega arith) (omega arith) (omega arith) (omega arith) mul-result returns returns-2)

@@ -1,8 +1,8 @@
 -- `residual::check` meets its contract.
+use native.Mathlib.Omega.{arith}
 use mathlib.Core.Path.{_∙_}
 use Rattle.outcome.proofs.Doors.{not-told}
 use Rattle.residual.proofs.Rules.{odd, many, refused, wild-x, wild-y, wild-t, all-pass}
-use borrow.Author.Needs.{needs}
 use Rattle.residual.proofs.check.Statement.{statement}
 use Rattle.residual.proofs.check.Tie as tie
 
@@ -58,5 +58,5 @@ returns-7 c =
 pub check-spec : {M : Type 1} → statement M
 check-spec =
     tie.close
-    (tie.spec (search needs) returns (search needs) returns-2 (search needs) returns-3 (search needs) (search needs)
-    returns-4 (search needs) (search needs) returns-5 (search needs) (search needs) returns-6 returns-7)
+    (tie.spec (omega arith) returns (omega arith) returns-2 (omega arith) returns-3 (omega arith) (omega arith)
+    returns-4 (omega arith) (omega arith) returns-5 (omega arith) (omega arith) returns-6 returns-7)

@@ -1,11 +1,11 @@
 -- `residual::constants` meets its contract: a turn stores one knot.
+use native.Mathlib.Omega.{arith}
 use mathlib.Core.Path.{refl}
 use Prim.Native.Nat.{_+_, _-_}
 use Rattle.meaning.specs.Scalar.{plain}
 use Rattle.meaning.specs.Table.{at1}
 use Rattle.meaning.proofs.Filling.{Filled, empty, filled, full}
 use Rattle.partials.specs.Dual.{cstDv, dual}
-use borrow.Author.Needs.{needs}
 use Rattle.residual.proofs.constants.Statement.{statement}
 use Rattle.residual.proofs.constants.Tie as tie
 
@@ -19,13 +19,13 @@ loop-holds : tie.Need-loop-holds Inv-loop μ-loop
 loop-holds c = empty refl
 
 loop-again : tie.Need-loop-again Inv-loop μ-loop
-loop-again c = filled (c .before .before .before .loop .inv) (search needs) (c .cst2 .ensures)
+loop-again c = filled (c .before .before .before .loop .inv) (omega arith) (c .cst2 .ensures)
 
 returns : tie.Need-returns Inv-loop μ-loop
-returns c = full (c .before .loop .inv) (search needs)
+returns c = full (c .before .loop .inv) (omega arith)
 
 pub constants-spec : {M : Type 1} → statement M
 constants-spec =
     tie.close
-    (tie.spec Inv-loop μ-loop (search needs) loop-holds (search needs) (search needs) (search needs) (search needs)
-    (search needs) (search needs) (search needs) (search needs) (search needs) loop-again returns)
+    (tie.spec Inv-loop μ-loop (omega arith) loop-holds (omega arith) (omega arith) (omega arith) (omega arith)
+    (omega arith) (omega arith) (omega arith) (omega arith) (omega arith) loop-again returns)

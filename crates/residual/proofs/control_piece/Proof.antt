@@ -49,6 +49,6 @@ returns c =
 pub control-piece-spec : {M : Type 1} → statement M
 control-piece-spec =
     tie.close
-    (tie.spec (search needs) (search needs) (search needs) (search needs) array-read-hi slice-aggregate-span
-    (search needs) (search needs) (search needs) (search needs) (search needs) four-requires (search needs)
+    (tie.spec (omega arith) (omega arith) (omega arith) (omega arith) array-read-hi slice-aggregate-span
+    (omega arith) (omega arith) (omega arith) (omega arith) (omega arith) four-requires (omega arith)
     four-requires-2 returns)

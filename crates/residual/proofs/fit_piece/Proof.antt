@@ -1,7 +1,7 @@
 -- `residual::fit_piece` meets its contract.
+use native.Mathlib.Omega.{arith}
 use denote.Ref.{now}
 use Rattle.residual.proofs.Fits.{fit-judged, fit-doubles, fit-counts}
-use borrow.Author.Needs.{needs}
 use Rattle.residual.proofs.fit_piece.Statement.{statement}
 use Rattle.residual.proofs.fit_piece.Tie as tie
 
@@ -19,4 +19,4 @@ returns c =
 
 pub fit-piece-spec : {M : Type 1} → statement M
 fit-piece-spec =
-    tie.close (tie.spec (search needs) (search needs) (search needs) (search needs) returns)
+    tie.close (tie.spec (omega arith) (omega arith) (omega arith) (omega arith) returns)

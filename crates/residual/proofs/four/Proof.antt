@@ -5,7 +5,6 @@ use Prim.Native.Nat.{_+_}
 use native.Mathlib.Omega.{arith}
 use denote.Ref.{now}
 use Rattle.fit_partials.proofs.Variables.{variable-at}
-use borrow.Author.Needs.{needs}
 use Rattle.residual.proofs.four.Statement.{statement}
 use Rattle.residual.proofs.four.Tie as tie
 
@@ -23,5 +22,5 @@ returns c =
 pub four-spec : {M : Type 1} → statement M
 four-spec =
     tie.close
-    (tie.spec (search needs) (search needs) (search needs) (search needs) (search needs) (search needs) (search needs)
+    (tie.spec (omega arith) (omega arith) (omega arith) (omega arith) (omega arith) (omega arith) (omega arith)
     returns)

@@ -2,7 +2,6 @@
 use native.Mathlib.Nat.{mul-le-mul}
 use native.Mathlib.Omega.{arith}
 use Rattle.residual.proofs.Rules.{short-work, short-counts, short-three, short-rows}
-use borrow.Author.Needs.{needs}
 use Rattle.residual.proofs.lacks.Statement.{statement}
 use Rattle.residual.proofs.lacks.Tie as tie
 
@@ -28,4 +27,4 @@ returns-4 c =
     short-rows (a .cells) (a .c) (a .doubles) (a .bytes) (a .three) (a .rows) (c .before .before .if1 .left) (c .before .if2 .left) (c .if3 .left)
 
 pub lacks-spec : {M : Type 1} → statement M
-lacks-spec = tie.close (tie.spec (search needs) mul-if1 returns returns-2 returns-3 (search needs) returns-4)
+lacks-spec = tie.close (tie.spec (omega arith) mul-if1 returns returns-2 returns-3 (omega arith) returns-4)

@@ -1,6 +1,6 @@
 -- `residual::part` meets its contract.
+use native.Mathlib.Omega.{arith}
 use borrow.Author.Tests.{lt-ltb, le-ltb}
-use borrow.Author.Needs.{needs}
 use Rattle.residual.proofs.part.Statement.{statement}
 use Rattle.residual.proofs.part.Tie as tie
 
@@ -11,4 +11,4 @@ returns-2 : tie.Need-returns-2
 returns-2 c = simp (le-ltb _ _ (c .if1 .left))
 
 pub part-spec : {M : Type 1} → statement M
-part-spec = tie.close (tie.spec (search needs) (search needs) returns returns-2)
+part-spec = tie.close (tie.spec (omega arith) (omega arith) returns returns-2)

@@ -1,11 +1,11 @@
 -- `residual::point` meets its contract: before the domain, past it, in it.
+use native.Mathlib.Omega.{arith}
 use mathlib.Core.Path.{ap, _∙_}
 use Rattle.partials.specs.declared.Dv.{Dv}
 use Rattle.partials.specs.Dual.{dual}
 use Rattle.evaluate.specs.Point.{straightOn}
 use Rattle.evaluate.specs.Piece.{onWindow}
 use Rattle.residual.proofs.Pieces.{point-before, point-past, point-inside}
-use borrow.Author.Needs.{needs}
 use Rattle.residual.proofs.point.Statement.{statement}
 use Rattle.residual.proofs.point.Tie as tie
 
@@ -33,4 +33,4 @@ returns-3 c =
 pub point-spec : {M : Type 1} → statement M
 point-spec =
     tie.close
-    (tie.spec (search needs) (search needs) returns (search needs) (search needs) returns-2 (search needs) returns-3)
+    (tie.spec (omega arith) (omega arith) returns (omega arith) (omega arith) returns-2 (omega arith) returns-3)

@@ -1,12 +1,12 @@
 -- `residual::read_curve` meets its contract: by the form.
+use native.Mathlib.Omega.{arith}
 use denote.Ref.{now}
 use Rattle.residual.proofs.Forms.{control-ready, fit-ready, control-judged, control-doubles, control-counts}
-use borrow.Author.Needs.{needs}
 use Rattle.residual.proofs.read_curve.Statement.{statement}
 use Rattle.residual.proofs.read_curve.Tie as tie
 
 enum-told : tie.Need-enum-told
-enum-told c = search needs
+enum-told c = omega arith
 
 control-piece-requires : tie.Need-control-piece-requires
 control-piece-requires c κs = control-ready (c .before .before .before .before .before .before .pre) (c .enum-told .given .1)
@@ -30,5 +30,5 @@ returns-2 c = rw (c .before .before .before .before .before .before .before .enu
 pub read-curve-spec : {M : Type 1} → statement M
 read-curve-spec =
     tie.close
-    (tie.spec enum-told control-piece-requires (search needs) fit-piece-requires returns (search needs) (search needs)
+    (tie.spec enum-told control-piece-requires (omega arith) fit-piece-requires returns (omega arith) (omega arith)
     returns-2)

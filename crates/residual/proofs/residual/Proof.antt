@@ -14,7 +14,6 @@ use Rattle.residual.specs.Curve.{shapeOf, storedFine, residualsOn}
 use Rattle.residual.specs.Piece.{Ready, inOrder}
 use Rattle.residual.proofs.Rules.{passed-handles, all-long}
 use Rattle.residual.proofs.Answers.{room-passed, refused-early, refused-short, concluded}
-use borrow.Author.Needs.{needs}
 use Rattle.residual.proofs.residual.Statement.{statement}
 use Rattle.residual.proofs.residual.Tie as tie
 
@@ -122,6 +121,6 @@ returns-3 c =
 pub residual-spec : {M : Type 1} → statement M
 residual-spec =
     tie.close
-    (tie.spec (search needs) returns (search needs) cells-requires lacks-requires (search needs) returns-2
-    read-curve-requires residuals-of-requires answer-requires (search needs) (search needs) (search needs)
-    (search needs) returns-3)
+    (tie.spec (omega arith) returns (omega arith) cells-requires lacks-requires (omega arith) returns-2
+    read-curve-requires residuals-of-requires answer-requires (omega arith) (omega arith) (omega arith)
+    (omega arith) returns-3)

@@ -6,7 +6,6 @@ use lib.Ieee.{Float}
 use Rattle.residual.specs.Curve.{threeOf}
 use Rattle.residual.specs.Piece.{Read}
 use Rattle.residual.proofs.Pieces.{held-is}
-use borrow.Author.Needs.{needs}
 use Rattle.residual.proofs.residuals_of.Statement.{statement}
 use Rattle.residual.proofs.residuals_of.Tie as tie
 
@@ -27,4 +26,4 @@ returns c =
 pub residuals-of-spec : {M : Type 1} → statement M
 residuals-of-spec =
     tie.close
-    (tie.spec (search needs) (search needs) (search needs) (search needs) (search needs) (search needs) returns)
+    (tie.spec (omega arith) (omega arith) (omega arith) (omega arith) (omega arith) (omega arith) returns)

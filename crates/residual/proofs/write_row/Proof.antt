@@ -23,7 +23,7 @@ abbrev μ-loop : tie.MeasureT-loop
 loop-holds : tie.Need-loop-holds Inv-loop μ-loop
 loop-holds c =
     let a = c .before .before .before .args in
-    (search needs, search needs, paste-zero (now (a .rows)) (a .at) (listed 0 (a .c) (partAt (a .d .g) (c .counted .result))))
+    (omega arith, omega arith, paste-zero (now (a .rows)) (a .at) (listed 0 (a .c) (partAt (a .d .g) (c .counted .result))))
 
 loop-again : tie.Need-loop-again Inv-loop μ-loop
 loop-again c =
@@ -31,8 +31,8 @@ loop-again c =
     let a = l .before .before .before .before .args in
     let k = l .loop .k in
     let f = partAt (a .d .g) (l .before .counted .result) in
-    let e = c .part .ensures ∙ sym (nth-listed (a .c) k f nan (search needs)) in (
-      search needs,
+    let e = c .part .ensures ∙ sym (nth-listed (a .c) k f nan (omega arith)) in (
+      omega arith,
       search needs,
       rw (e, l .loop .inv .2, add-one k)
           (paste-suc (now (a .rows)) (a .at) (listed 0 (a .c) f) k nan (omega arith) (omega (arith, length-listed 0 (a .c) f))),
@@ -48,5 +48,5 @@ returns c =
 pub write-row-spec : {M : Type 1} → statement M
 write-row-spec =
     tie.close
-    (tie.spec Inv-loop μ-loop (search needs) loop-holds (search needs) (search needs) (search needs) (search needs)
-    (search needs) (search needs) loop-again (search needs) returns)
+    (tie.spec Inv-loop μ-loop (omega arith) loop-holds (omega arith) (omega arith) (omega arith) (omega arith)
+    (omega arith) (omega arith) loop-again (omega arith) returns)

@@ -1,7 +1,7 @@
 -- `residual::write_rows` meets its contract: one row after the other.
+use native.Mathlib.Omega.{arith}
 use denote.Ref.{now}
 use Rattle.residual.proofs.Rows.{rows-put}
-use borrow.Author.Needs.{needs}
 use Rattle.residual.proofs.write_rows.Statement.{statement}
 use Rattle.residual.proofs.write_rows.Tie as tie
 
@@ -17,4 +17,4 @@ returns c =
 pub write-rows-spec : {M : Type 1} → statement M
 write-rows-spec =
     tie.close
-    (tie.spec (search needs) (search needs) (search needs) (search needs) (search needs) returns)
+    (tie.spec (omega arith) (omega arith) (omega arith) (omega arith) (omega arith) returns)

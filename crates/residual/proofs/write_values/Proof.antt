@@ -22,4 +22,4 @@ returns c = three-put (now (c .args .residuals)) _ _ _ (c .pre)
 pub write-values-spec : {M : Type 1} → statement M
 write-values-spec =
     tie.close
-    (tie.spec (search needs) slice-write-residuals-2 slice-write-residuals-3 (search needs) returns)
+    (tie.spec (omega arith) slice-write-residuals-2 slice-write-residuals-3 (search needs) returns)

@@ -3,7 +3,6 @@ use mathlib.Core.Path.{_≡_, sym, ap, _∙_}
 use mathlib.Core.List.{List, [], _∷_, _++_}
 use native.Mathlib.Nat.{suc-ne-zero}
 use native.Mathlib.Omega.{arith}
-use borrow.Author.Needs.{needs}
 use borrow.Author.Tests.{lt-ltb, le-ltb}
 use denote.Ref.{now}
 use lib.Dec.{ltb}
@@ -80,12 +79,12 @@ pub answer-samples-spec : {M : Type 1} → statement M
 answer-samples-spec =
     tie.close
     (tie.spec
-    (search needs)
+    (omega arith)
     returns
-    (search needs)
+    (omega arith)
     slice-aggregate-deliver
-    (search needs)
-    (search needs)
+    (omega arith)
+    (omega arith)
     returns-2
-    (search needs)
+    (omega arith)
     returns-3)

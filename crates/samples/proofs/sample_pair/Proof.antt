@@ -25,14 +25,14 @@ abbrev μ-loop : tie.MeasureT-loop
 loop-holds : tie.Need-loop-holds Inv-loop μ-loop
 loop-holds c =
     let a = c .before .args in
-    (search needs, search needs, paste-zero (now (a .room)) (a .at) (listed 0 (a .per) (sampleAt (a .w0) (a .w1) (a .per))))
+    (omega arith, omega arith, paste-zero (now (a .room)) (a .at) (listed 0 (a .per) (sampleAt (a .w0) (a .w1) (a .per))))
 
 loop-again : tie.Need-loop-again Inv-loop μ-loop
 loop-again c =
     let l = c .before .before .loop in
     let a = c .before .before .before .before .args in
     let p = listed 0 (a .per) (sampleAt (a .w0) (a .w1) (a .per)) in (
-      search needs,
+      omega arith,
       search needs,
       rw (c .sample-at .ensures, l .inv .2, add-one (l .s), sym (sample-is (a .w0) (a .w1) (a .per) (l .s) (omega arith)))
           (paste-suc (now (a .room)) (a .at) p (l .s) nan (omega arith) (omega (arith, length-listed 0 (a .per) (sampleAt (a .w0) (a .w1) (a .per))))),
@@ -44,5 +44,5 @@ returns c = let e : c .before .loop .s ≡ c .before .before .before .args .per 
 pub sample-pair-spec : {M : Type 1} → statement M
 sample-pair-spec =
     tie.close
-    (tie.spec Inv-loop μ-loop loop-holds (search needs) (search needs) (search needs) (search needs) (search needs) (search needs)
-    (search needs) (search needs) loop-again (search needs) returns)
+    (tie.spec Inv-loop μ-loop loop-holds (omega arith) (omega arith) (omega arith) (omega arith) (omega arith) (omega arith)
+    (omega arith) (omega arith) loop-again (omega arith) returns)

@@ -10,7 +10,6 @@ use Rattle.meaning.specs.Scalar.{plain}
 use Rattle.meaning.specs.Table.{at1}
 use Rattle.samples.specs.Samples.{pairSamples}
 use Rattle.samples.proofs.Sampled.{Sampled, sampled-first, sampled-next, length-rising}
-use borrow.Author.Needs.{needs}
 use Rattle.samples.proofs.sample_pairs.Statement.{statement}
 use Rattle.samples.proofs.sample_pairs.Tie as tie
 
@@ -21,7 +20,7 @@ abbrev μ-loop : tie.MeasureT-loop
 μ-loop u n per room₀ at₀ pairs i₀ room at i = pairs - i
 
 loop-holds : tie.Need-loop-holds Inv-loop μ-loop
-loop-holds c = (search needs, search needs, sampled-first _ _ _)
+loop-holds c = (omega arith, omega arith, sampled-first _ _ _)
 
 loop-again : tie.Need-loop-again Inv-loop μ-loop
 loop-again c =
@@ -45,5 +44,5 @@ returns c =
 pub sample-pairs-spec : {M : Type 1} → statement M
 sample-pairs-spec =
     tie.close
-    (tie.spec Inv-loop μ-loop (search needs) loop-holds (search needs) (search needs) (search needs) (search needs)
-    (search needs) (search needs) (search needs) (search needs) loop-again (search needs) returns)
+    (tie.spec Inv-loop μ-loop (omega arith) loop-holds (omega arith) (omega arith) (omega arith) (omega arith)
+    (omega arith) (omega arith) (omega arith) (omega arith) loop-again (omega arith) returns)

@@ -1,4 +1,5 @@
 -- `samples::sample_rising` meets its contract.
+use native.Mathlib.Omega.{arith}
 use mathlib.Core.Path.{refl, sym}
 use native.Mathlib.Nat.{add-zero}
 use denote.Ref.{now}
@@ -7,7 +8,6 @@ use lib.Seq.{paste-zero}
 use Rattle.meaning.proofs.Filling.{length-listed}
 use Rattle.samples.specs.Samples.{sampleAt}
 use Rattle.samples.proofs.Sampled.{all-rising, none-rising}
-use borrow.Author.Needs.{needs}
 use Rattle.samples.proofs.sample_rising.Statement.{statement}
 use Rattle.samples.proofs.sample_rising.Tie as tie
 
@@ -26,4 +26,4 @@ returns-2 c =
 
 pub sample-rising-spec : {M : Type 1} → statement M
 sample-rising-spec =
-    tie.close (tie.spec (search needs) (search needs) (search needs) returns returns-2)
+    tie.close (tie.spec (omega arith) (omega arith) (omega arith) returns returns-2)

@@ -1,6 +1,6 @@
 -- `samples::samples` meets its contract: the rules of the record, then the answer.
+use native.Mathlib.Omega.{arith}
 use mathlib.Core.Path.{refl, sym, ap, _∙_}
-use borrow.Author.Needs.{needs}
 use denote.Ref.{now}
 use lib.ListN.{length}
 use Rattle.refusal.proofs.Rows.{number-of}
@@ -39,4 +39,4 @@ returns-2 c =
 
 pub samples-spec : {M : Type 1} → statement M
 samples-spec =
-    tie.close (tie.spec (search needs) returns answer-samples-requires (search needs) returns-2)
+    tie.close (tie.spec (omega arith) returns answer-samples-requires (omega arith) returns-2)

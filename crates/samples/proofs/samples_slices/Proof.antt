@@ -3,7 +3,6 @@ use mathlib.Core.Path.{refl, sym, ap, _∙_}
 use mathlib.Core.Bool.{true}
 use mathlib.Core.List.{List, [], _∷_}
 use native.Mathlib.Omega.{arith}
-use borrow.Author.Needs.{needs}
 use denote.Ref.{now}
 use lib.Dec.{ltb}
 use lib.ListN.{length}
@@ -58,4 +57,4 @@ returns-2 c =
 
 pub samples-slices-spec : {M : Type 1} → statement M
 samples-slices-spec =
-    tie.close (tie.spec (search needs) returns answer-samples-requires (search needs) returns-2)
+    tie.close (tie.spec (omega arith) returns answer-samples-requires (omega arith) returns-2)

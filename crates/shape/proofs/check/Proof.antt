@@ -1,6 +1,6 @@
 -- `shape::check` meets its contract.
+use native.Mathlib.Omega.{arith}
 use mathlib.Core.Path.{_∙_}
-use borrow.Author.Needs.{needs}
 use denote.Ref.{now}
 use lib.Ieee.{Float}
 use Rattle.meaning.proofs.Searching.{told-some, told-none}
@@ -44,5 +44,5 @@ returns-4 c =
 pub check-spec : {M : Type 1} → statement M
 check-spec =
     tie.close
-    (tie.spec (search needs) returns (search needs) (search needs) returns-2 (search needs) (search needs) returns-3
+    (tie.spec (omega arith) returns (omega arith) (omega arith) returns-2 (omega arith) (omega arith) returns-3
     returns-4)

@@ -1,6 +1,6 @@
 -- `shape::check_handles` meets its contract.
+use native.Mathlib.Omega.{arith}
 use mathlib.Core.Path.{_∙_}
-use borrow.Author.Needs.{needs}
 use denote.Ref.{now}
 use Rattle.meaning.proofs.Searching.{told-some, told-none}
 use Rattle.shape.proofs.Handles.{odd-handles, knots-refused, wild-handles, tame-handles}
@@ -37,4 +37,4 @@ returns-4 c =
 pub check-handles-spec : {M : Type 1} → statement M
 check-handles-spec =
     tie.close
-    (tie.spec (search needs) returns (search needs) returns-2 (search needs) (search needs) returns-3 returns-4)
+    (tie.spec (omega arith) returns (omega arith) returns-2 (omega arith) (omega arith) returns-3 returns-4)

@@ -1,7 +1,7 @@
 -- `shape::check_knots` meets its contract.
+use native.Mathlib.Omega.{arith}
 use mathlib.Core.Path.{sym, ap, _∙_}
 use mathlib.Core.Bool.{true}
-use borrow.Author.Needs.{needs}
 use denote.Ref.{now}
 use lib.Seq.{length-take-le}
 use Rattle.refusal.specs.Refusals.{firstOf}
@@ -27,4 +27,4 @@ returns-2 c =
 pub check-knots-spec : {M : Type 1} → statement M
 check-knots-spec =
     tie.close
-    (tie.spec (search needs) (search needs) returns slice-aggregate-check-2 (search needs) returns-2)
+    (tie.spec (omega arith) (omega arith) returns slice-aggregate-check-2 (omega arith) returns-2)

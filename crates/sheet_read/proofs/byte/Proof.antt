@@ -1,5 +1,5 @@
 -- `sheet_read::byte` meets its contract.
-use borrow.Author.Needs.{needs}
+use native.Mathlib.Omega.{arith}
 use mathlib.Core.Path.{sym}
 use denote.Ref.{now}
 use lib.ListN.{List·getD-eq-default}
@@ -10,4 +10,4 @@ returns-2 : tie.Need-returns-2
 returns-2 c = sym (List·getD-eq-default (now (c .before .args .s)) 0 (c .if1 .left))
 
 pub byte-spec : {M : Type 1} → statement M
-byte-spec = tie.close (tie.spec (search needs) (search needs) returns-2)
+byte-spec = tie.close (tie.spec (omega arith) (omega arith) returns-2)

@@ -1,5 +1,4 @@
 -- `sheet_read::digit` meets its contract: each range has its own difference.
-use borrow.Author.Needs.{needs}
 use mathlib.Core.Path.{sym, _∙_}
 use native.Mathlib.Omega.{arith}
 use Rattle.sheet_read.proofs.Numerals.{not-below, decimal-is, letter-is, no-digit}
@@ -28,5 +27,5 @@ returns-3 c =
 pub digit-spec : {M : Type 1} → statement M
 digit-spec =
     tie.close
-    (tie.spec (search needs) sub-result (search needs) returns (search needs) sub-result-2 (search needs) returns-2
+    (tie.spec (omega arith) sub-result (omega arith) returns (omega arith) sub-result-2 (omega arith) returns-2
     returns-3)

@@ -1,5 +1,5 @@
 -- `sheet_read::double` meets its contract.
-use borrow.Author.Needs.{needs}
+use native.Mathlib.Omega.{arith}
 use mathlib.Core.Path.{sym, ap, _∙_}
 use Prim.Native.Nat.{ℕ}
 use lib.Ieee.{binary64, ofBits}
@@ -20,4 +20,4 @@ unfolding doubleAt
 returns-2 c = c .of-bits .ensures ∙ ap (λ (b : ℕ). ofBits binary64 b) (c .before .number .ensures)
 
 pub double-spec : {M : Type 1} → statement M
-double-spec = tie.close (tie.spec returns (search needs) (search needs) returns-2)
+double-spec = tie.close (tie.spec returns (omega arith) (omega arith) returns-2)

@@ -1,5 +1,4 @@
 -- `sheet_read::has_count` meets its contract: the tests are those of `countStands`, in its order.
-use borrow.Author.Needs.{needs}
 use native.Mathlib.Omega.{arith}
 use borrow.Author.Tests.{not-true, not-false}
 use Rattle.sheet_read.proofs.Numerals.{few-digits, no-count, led-by-zero, too-many, line-ends}
@@ -40,5 +39,5 @@ returns-4 c =
 pub has-count-spec : {M : Type 1} → statement M
 has-count-spec =
     tie.close
-    (tie.spec (search needs) returns (search needs) returns-2 number-requires returns-3 add-byte (search needs)
+    (tie.spec (omega arith) returns (omega arith) returns-2 number-requires returns-3 add-byte (omega arith)
     returns-4)

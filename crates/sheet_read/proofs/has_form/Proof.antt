@@ -1,5 +1,5 @@
 -- `sheet_read::has_form` meets its contract: each form has its own word.
-use borrow.Author.Needs.{needs}
+use native.Mathlib.Omega.{arith}
 use mathlib.Core.Path.{_∙_}
 use Rattle.sheet_read.proofs.has_form.Statement.{statement}
 use Rattle.sheet_read.proofs.has_form.Tie as tie
@@ -13,5 +13,5 @@ returns-2 c = c .has-word2 .ensures ∙ rw (c .before .before .enum-told2 .given
 pub has-form-spec : {M : Type 1} → statement M
 has-form-spec =
     tie.close
-    (tie.spec (search needs) (search needs) (search needs) (search needs) (search needs) (search needs) returns
+    (tie.spec (omega arith) (omega arith) (omega arith) (omega arith) (omega arith) (omega arith) returns
     returns-2)

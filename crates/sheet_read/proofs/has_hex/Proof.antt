@@ -1,5 +1,5 @@
 -- `sheet_read::has_hex` meets its contract: each byte passed is a digit.
-use borrow.Author.Needs.{needs}
+use native.Mathlib.Omega.{arith}
 use mathlib.Core.Path.{sym, ap, _∙_}
 use Prim.Native.Nat.{_+_, _-_}
 use borrow.Author.Tests.{not-true, not-false}
@@ -21,21 +21,21 @@ loop-holds c = start
 returns : tie.Need-returns Inv-loop μ-loop
 returns c =
     let l = c .before .before .before .before .loop in
-    let h = fails (l .inv) (search needs) (ap isHex (sym (c .before .before .byte .ensures)) ∙ sym (c .before .is-hex .ensures) ∙ not-true _ (c .if1 .taken)) in
+    let h = fails (l .inv) (omega arith) (ap isHex (sym (c .before .before .byte .ensures)) ∙ sym (c .before .is-hex .ensures) ∙ not-true _ (c .if1 .taken)) in
     rw (← h)
 
 loop-again : tie.Need-loop-again Inv-loop μ-loop
 loop-again c =
     let l = c .before .before .before .before .loop in
-    on (l .inv) (search needs) (ap isHex (sym (c .before .before .byte .ensures)) ∙ sym (c .before .is-hex .ensures) ∙ not-false _ (c .if1 .left))
+    on (l .inv) (omega arith) (ap isHex (sym (c .before .before .byte .ensures)) ∙ sym (c .before .is-hex .ensures) ∙ not-false _ (c .if1 .left))
 
 returns-2 : tie.Need-returns-2 Inv-loop μ-loop
 returns-2 c =
-    let h = holds (c .before .before .loop .inv) (search needs) in
+    let h = holds (c .before .before .loop .inv) (omega arith) in
     rw (← h, c .byte2 .ensures)
 
 pub has-hex-spec : {M : Type 1} → statement M
 has-hex-spec =
     tie.close
-    (tie.spec Inv-loop μ-loop loop-holds (search needs) (search needs) (search needs) returns (search needs)
-    (search needs) loop-again (search needs) (search needs) returns-2)
+    (tie.spec Inv-loop μ-loop loop-holds (omega arith) (omega arith) (omega arith) returns (omega arith)
+    (omega arith) loop-again (omega arith) (omega arith) returns-2)

@@ -1,5 +1,5 @@
 -- `sheet_read::has_numbers` meets its contract: each number passed stands in its place.
-use borrow.Author.Needs.{needs}
+use native.Mathlib.Omega.{arith}
 use mathlib.Core.Path.{_≡_, sym, _∙_}
 use Prim.Native.Nat.{_-_}
 use borrow.Author.Tests.{not-true, not-false}
@@ -29,19 +29,19 @@ returns : tie.Need-returns Inv-loop μ-loop
 unfolding numbersStand
 returns c =
     let l = c .before .before .before .before .loop in
-    fails (l .inv) (search needs) (sym (tested (c .before)) ∙ not-true _ (c .if1 .taken))
+    fails (l .inv) (omega arith) (sym (tested (c .before)) ∙ not-true _ (c .if1 .taken))
 
 loop-again : tie.Need-loop-again Inv-loop μ-loop
 loop-again c =
     let l = c .before .before .before .before .loop in
-    on (l .inv) (search needs) (sym (tested (c .before)) ∙ not-false _ (c .if1 .left))
+    on (l .inv) (omega arith) (sym (tested (c .before)) ∙ not-false _ (c .if1 .left))
 
 returns-2 : tie.Need-returns-2 Inv-loop μ-loop
 unfolding numbersStand
-returns-2 c = holds (c .before .loop .inv) (search needs)
+returns-2 c = holds (c .before .loop .inv) (omega arith)
 
 pub has-numbers-spec : {M : Type 1} → statement M
 has-numbers-spec =
     tie.close
-    (tie.spec Inv-loop μ-loop loop-holds (search needs) (search needs) (search needs) (search needs) returns
-    (search needs) (search needs) loop-again returns-2)
+    (tie.spec Inv-loop μ-loop loop-holds (omega arith) (omega arith) (omega arith) (omega arith) returns
+    (omega arith) (omega arith) loop-again returns-2)

@@ -1,5 +1,5 @@
 -- `sheet_read::is_hex` meets its contract.
-use borrow.Author.Needs.{needs}
+use native.Mathlib.Omega.{arith}
 use mathlib.Core.Path.{sym, _∙_}
 use Rattle.sheet_read.proofs.is_hex.Statement.{statement}
 use Rattle.sheet_read.proofs.is_hex.Tie as tie
@@ -11,4 +11,4 @@ returns-2 : tie.Need-returns-2
 returns-2 c = rw (sym (c .before .before .lies-within .ensures) ∙ c .before .if1 .left) (c .lies-within2 .ensures)
 
 pub is-hex-spec : {M : Type 1} → statement M
-is-hex-spec = tie.close (tie.spec (search needs) returns (search needs) returns-2)
+is-hex-spec = tie.close (tie.spec (omega arith) returns (omega arith) returns-2)

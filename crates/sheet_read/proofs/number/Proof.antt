@@ -1,5 +1,4 @@
 -- `sheet_read::number` meets its contract: i digits write a number below 16 ^ i.
-use borrow.Author.Needs.{needs}
 use Prim.Native.Nat.{_+_, _-_, _*_, _^_, _<_}
 use native.Mathlib.Omega.{arith}
 use Rattle.meaning.proofs.For.{At, first, next, last}
@@ -23,7 +22,7 @@ grown c =
     larger (l .i) (l .inv .0) (c .before .before .before .before .before .pre .0) (rw (c .digit .ensures) (digit-small _))
 
 loop-holds : tie.Need-loop-holds Inv-loop μ-loop
-loop-holds c = (search needs, first (search needs))
+loop-holds c = (omega arith, first (omega arith))
 
 mul-v : tie.Need-mul-v Inv-loop μ-loop
 mul-v c =
@@ -36,14 +35,14 @@ add-v c = omega (arith, fits-word (c .before .before .before .loop .i + 1) (grow
 loop-again : tie.Need-loop-again Inv-loop μ-loop
 loop-again c =
     let l = c .before .before .before .loop in
-    (grown c, next (l .inv .1) (search needs) (rw (c .digit .ensures, c .before .byte .ensures)))
+    (grown c, next (l .inv .1) (omega arith) (rw (c .digit .ensures, c .before .byte .ensures)))
 
 returns : tie.Need-returns Inv-loop μ-loop
 unfolding numberAt
-returns c = last (c .before .loop .inv .1) (search needs)
+returns c = last (c .before .loop .inv .1) (omega arith)
 
 pub number-spec : {M : Type 1} → statement M
 number-spec =
     tie.close
-    (tie.spec Inv-loop μ-loop loop-holds mul-v (search needs) (search needs) (search needs) add-v (search needs)
-    (search needs) loop-again returns)
+    (tie.spec Inv-loop μ-loop loop-holds mul-v (omega arith) (omega arith) (omega arith) add-v (omega arith)
+    (omega arith) loop-again returns)

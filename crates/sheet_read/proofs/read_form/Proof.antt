@@ -1,5 +1,5 @@
 -- `sheet_read::read_form` meets its contract.
-use borrow.Author.Needs.{needs}
+use native.Mathlib.Omega.{arith}
 use Rattle.sheet_read.proofs.read_form.Statement.{statement}
 use Rattle.sheet_read.proofs.read_form.Tie as tie
 
@@ -10,4 +10,4 @@ returns-2 : tie.Need-returns-2
 returns-2 c = rw (← (c .before .has-form .ensures), c .if1 .left)
 
 pub read-form-spec : {M : Type 1} → statement M
-read-form-spec = tie.close (tie.spec (search needs) returns returns-2)
+read-form-spec = tie.close (tie.spec (omega arith) returns returns-2)

@@ -1,5 +1,5 @@
 -- `sheet_read::read_line` meets its contract.
-use borrow.Author.Needs.{needs}
+use native.Mathlib.Omega.{arith}
 use mathlib.Core.Path.{sym, _∙_}
 use borrow.Author.Tests.{not-true, not-false, le-leb, lt-leb}
 use Rattle.sheet_read.specs.Line.{lineOf}
@@ -25,4 +25,4 @@ returns-3 c =
 pub read-line-spec : {M : Type 1} → statement M
 read-line-spec =
     tie.close
-    (tie.spec (search needs) returns (search needs) (search needs) returns-2 (search needs) returns-3)
+    (tie.spec (omega arith) returns (omega arith) (omega arith) returns-2 (omega arith) returns-3)

@@ -1,5 +1,4 @@
 -- `sheet_read::read_section` meets its contract: the tests are those of `sectionAt`, in its order.
-use borrow.Author.Needs.{needs}
 use mathlib.Core.Path.{sym, _∙_}
 use Prim.Native.Nat.{_*_, _≤_}
 use native.Mathlib.Nat.{le-trans}
@@ -78,6 +77,6 @@ returns-4 c =
 pub read-section-spec : {M : Type 1} → statement M
 read-section-spec =
     tie.close
-    (tie.spec (search needs) (search needs) returns (search needs) (search needs) (search needs) returns-2
-    (search needs) number-requires add-start add-start-2 mul-n has-numbers-requires (search needs) returns-3 mul-t13
+    (tie.spec (omega arith) (omega arith) returns (omega arith) (omega arith) (omega arith) returns-2
+    (omega arith) number-requires add-start add-start-2 mul-n has-numbers-requires (omega arith) returns-3 mul-t13
     add-t15 returns-4)

@@ -1,5 +1,4 @@
 -- `sheet_read::read_sheet` meets its contract: section after section, each where the one before ends.
-use borrow.Author.Needs.{needs}
 use mathlib.Core.Path.{_∙_}
 use Prim.Native.Nat.{_≤_}
 use native.Mathlib.Nat.{le-trans}
@@ -41,6 +40,6 @@ returns c =
 pub read-sheet-spec : {M : Type 1} → statement M
 read-sheet-spec =
     tie.close
-    (tie.spec (search needs) (search needs) (search needs) read-section-requires (search needs)
-    read-section-requires-2 (search needs) read-section-requires-3 (search needs) (search needs) (search needs)
-    (search needs) (search needs) returns)
+    (tie.spec (omega arith) (omega arith) (omega arith) read-section-requires (omega arith)
+    read-section-requires-2 (omega arith) read-section-requires-3 (omega arith) (omega arith) (omega arith)
+    (omega arith) (omega arith) returns)

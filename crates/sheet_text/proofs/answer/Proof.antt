@@ -1,5 +1,4 @@
 -- `sheet_text::answer` meets its contract.
-use borrow.Author.Needs.{needs}
 use mathlib.Core.Path.{sym, ap, _∙_, subst}
 use mathlib.Core.Bool.{true≢false}
 use native.Mathlib.Omega.{arith}
@@ -43,5 +42,5 @@ returns-3 c =
 pub answer-spec : {M : Type 1} → statement M
 answer-spec =
     tie.close
-    (tie.spec returns (search needs) (search needs) (search needs) (search needs) returns-2 answer-sheet-requires
-    (search needs) (search needs) returns-3)
+    (tie.spec returns (omega arith) (omega arith) (omega arith) (omega arith) returns-2 answer-sheet-requires
+    (omega arith) (omega arith) returns-3)

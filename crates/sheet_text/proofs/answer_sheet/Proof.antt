@@ -1,5 +1,4 @@
 -- `sheet_text::answer_sheet` meets its contract: the numbers of the sheet are read, built and printed.
-use borrow.Author.Needs.{needs}
 use mathlib.Core.Path.{sym, ap, _∙_}
 use native.Mathlib.Omega.{arith}
 use lib.ListN.{length}
@@ -36,6 +35,6 @@ returns c =
 pub answer-sheet-spec : {M : Type 1} → statement M
 answer-sheet-spec =
     tie.close
-    (tie.spec (search needs) (search needs) (search needs) (search needs) (search needs) (search needs)
-    slice-aggregate-build (search needs) slice-aggregate-build-2 (search needs) put-built-requires (search needs)
-    (search needs) returns)
+    (tie.spec (omega arith) (omega arith) (omega arith) (omega arith) (omega arith) (omega arith)
+    slice-aggregate-build (omega arith) slice-aggregate-build-2 (omega arith) put-built-requires (omega arith)
+    (omega arith) returns)

@@ -1,5 +1,5 @@
 -- `sheet_text::bits_of` meets its contract: what does not equal itself is the one NaN.
-use borrow.Author.Needs.{needs}
+use native.Mathlib.Omega.{arith}
 use mathlib.Core.Path.{_≡_, sym, subst, ap}
 use mathlib.Core.Bool.{false, not}
 use lib.Dec.{T}
@@ -23,4 +23,4 @@ float-to-bits-result : tie.Need-float-to-bits-result
 float-to-bits-result c = number (c .before .args .x) (c .if1 .left)
 
 pub bits-of-spec : {M : Type 1} → statement M
-bits-of-spec = tie.close (tie.spec returns float-to-bits-result (search needs))
+bits-of-spec = tie.close (tie.spec returns float-to-bits-result (omega arith))

@@ -1,5 +1,5 @@
 -- `sheet_text::glyph` meets its contract.
-use borrow.Author.Needs.{needs}
+use native.Mathlib.Omega.{arith}
 use borrow.Author.Tests.{lt-ltb, le-ltb}
 use Rattle.sheet_text.proofs.glyph.Statement.{statement}
 use Rattle.sheet_text.proofs.glyph.Tie as tie
@@ -12,4 +12,4 @@ returns-2 c = rw (le-ltb _ _ (c .if1 .left))
 
 pub glyph-spec : {M : Type 1} → statement M
 glyph-spec =
-    tie.close (tie.spec (search needs) (search needs) returns (search needs) (search needs) returns-2)
+    tie.close (tie.spec (omega arith) (omega arith) returns (omega arith) (omega arith) returns-2)

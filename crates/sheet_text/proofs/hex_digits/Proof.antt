@@ -1,5 +1,5 @@
 -- `sheet_text::hex_digits` meets its contract: a turn sets one digit.
-use borrow.Author.Needs.{needs}
+use native.Mathlib.Omega.{arith}
 use mathlib.Core.Path.{refl}
 use Prim.Native.Nat.{_-_, _*_, _/_, _%_, _^_}
 use Rattle.meaning.proofs.Filling.{Filled, empty, filled, full}
@@ -18,14 +18,14 @@ loop-holds : tie.Need-loop-holds Inv-loop μ-loop
 loop-holds c = empty refl
 
 loop-again : tie.Need-loop-again Inv-loop μ-loop
-loop-again c = filled (c .before .before .loop .inv) (search needs) (c .glyph .ensures)
+loop-again c = filled (c .before .before .loop .inv) (omega arith) (c .glyph .ensures)
 
 returns : tie.Need-returns Inv-loop μ-loop
 unfolding hexText
-returns c = full (c .before .loop .inv) (search needs)
+returns c = full (c .before .loop .inv) (omega arith)
 
 pub hex-digits-spec : {M : Type 1} → statement M
 hex-digits-spec =
     tie.close
-    (tie.spec Inv-loop μ-loop loop-holds (search needs) (search needs) (search needs) (search needs) (search needs)
-    (search needs) (search needs) loop-again returns)
+    (tie.spec Inv-loop μ-loop loop-holds (omega arith) (omega arith) (omega arith) (omega arith) (omega arith)
+    (omega arith) (omega arith) loop-again returns)

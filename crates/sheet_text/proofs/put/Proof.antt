@@ -17,7 +17,7 @@ abbrev μ-loop : tie.MeasureT-loop
 μ-loop out₀ at w i₀ i-end out i = i-end - i
 
 loop-holds : tie.Need-loop-holds Inv-loop μ-loop
-loop-holds c = (refl, search needs, refl, paste-zero (now (c .args .out)) (c .args .at) (now (c .args .w)))
+loop-holds c = (refl, omega arith, refl, paste-zero (now (c .args .out)) (c .args .at) (now (c .args .w)))
 
 loop-again : tie.Need-loop-again Inv-loop μ-loop
 loop-again c =
@@ -35,5 +35,5 @@ returns c =
 pub put-spec : {M : Type 1} → statement M
 put-spec =
     tie.close
-    (tie.spec Inv-loop μ-loop loop-holds (search needs) (search needs) (search needs) (search needs) (search needs)
-    loop-again (search needs) (search needs) returns)
+    (tie.spec Inv-loop μ-loop loop-holds (omega arith) (omega arith) (omega arith) (omega arith) (omega arith)
+    loop-again (omega arith) (omega arith) returns)

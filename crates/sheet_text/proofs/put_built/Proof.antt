@@ -1,5 +1,4 @@
 -- `sheet_text::put_built` meets its contract: the refusal alone, or the head and the lines.
-use borrow.Author.Needs.{needs}
 use native.Mathlib.Omega.{arith}
 use Rattle.refusal.proofs.Rows.{number-of}
 use Rattle.sheet_text.proofs.Putting.{joined}
@@ -28,4 +27,4 @@ returns-2 c =
 pub put-built-spec : {M : Type 1} → statement M
 put-built-spec =
     tie.close
-    (tie.spec (search needs) (search needs) returns (search needs) put-lines-requires (search needs) returns-2)
+    (tie.spec (omega arith) (omega arith) returns (omega arith) put-lines-requires (omega arith) returns-2)

@@ -1,5 +1,5 @@
 -- `sheet_text::put_decimal` meets its contract: one digit or two.
-use borrow.Author.Needs.{needs}
+use native.Mathlib.Omega.{arith}
 use Rattle.sheet_text.proofs.Putting.{one-digit, two-digits}
 use Rattle.sheet_text.proofs.put_decimal.Statement.{statement}
 use Rattle.sheet_text.proofs.put_decimal.Tie as tie
@@ -15,5 +15,5 @@ returns-2 c = rw (two-digits _ (c .before .before .before .before .before .befor
 pub put-decimal-spec : {M : Type 1} → statement M
 put-decimal-spec =
     tie.close
-    (tie.spec (search needs) (search needs) (search needs) (search needs) returns (search needs) (search needs)
-    (search needs) (search needs) (search needs) returns-2)
+    (tie.spec (omega arith) (omega arith) (omega arith) (omega arith) returns (omega arith) (omega arith)
+    (omega arith) (omega arith) (omega arith) returns-2)

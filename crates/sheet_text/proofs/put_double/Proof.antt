@@ -1,5 +1,5 @@
 -- `sheet_text::put_double` meets its contract: the digits follow the word.
-use borrow.Author.Needs.{needs}
+use native.Mathlib.Omega.{arith}
 use mathlib.Core.Path.{ap, _∙_}
 use Rattle.sheet_text.specs.Printed.{doubleText, hexText}
 use Rattle.sheet_text.proofs.Putting.{joined}
@@ -16,4 +16,4 @@ returns c =
 pub put-double-spec : {M : Type 1} → statement M
 put-double-spec =
     tie.close
-    (tie.spec (search needs) (search needs) (search needs) (search needs) (search needs) (search needs) returns)
+    (tie.spec (omega arith) (omega arith) (omega arith) (omega arith) (omega arith) (omega arith) returns)

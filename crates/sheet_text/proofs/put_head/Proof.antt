@@ -1,5 +1,4 @@
 -- `sheet_text::put_head` meets its contract: its parts follow one another.
-use borrow.Author.Needs.{needs}
 use native.Mathlib.Omega.{arith}
 use Rattle.sheet_text.specs.Printed.{headText}
 use Rattle.sheet_text.proofs.Putting.{joined, few-decimal, head-short}
@@ -27,5 +26,5 @@ returns c =
 pub put-head-spec : {M : Type 1} → statement M
 put-head-spec =
     tie.close
-    (tie.spec (search needs) (search needs) (search needs) put-number-requires-2 (search needs) put-requires
-    (search needs) returns)
+    (tie.spec (omega arith) (omega arith) (omega arith) put-number-requires-2 (omega arith) put-requires
+    (omega arith) returns)

@@ -1,5 +1,5 @@
 -- `sheet_text::put_line` meets its contract: the point, or the refusal of the evaluation.
-use borrow.Author.Needs.{needs}
+use native.Mathlib.Omega.{arith}
 use Rattle.sheet_text.proofs.Lines.{line-refused, line-point}
 use Rattle.sheet_text.proofs.Promises.{refused-promise, point-promise}
 use Rattle.sheet_text.proofs.put_line.Statement.{statement}
@@ -20,5 +20,5 @@ returns-2 c =
 pub put-line-spec : {M : Type 1} → statement M
 put-line-spec =
     tie.close
-    (tie.spec (search needs) (search needs) (search needs) (search needs) returns (search needs) (search needs)
-    (search needs) (search needs) returns-2)
+    (tie.spec (omega arith) (omega arith) (omega arith) (omega arith) returns (omega arith) (omega arith)
+    (omega arith) (omega arith) returns-2)

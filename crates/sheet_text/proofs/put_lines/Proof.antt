@@ -1,5 +1,4 @@
 -- `sheet_text::put_lines` meets its contract: a turn prints one line.
-use borrow.Author.Needs.{needs}
 use mathlib.Core.Path.{_∙_, subst}
 use Prim.Native.Nat.{_-_, _≤_}
 use native.Mathlib.Omega.{arith}
@@ -22,7 +21,7 @@ abbrev μ-loop : tie.MeasureT-loop
 μ-loop out₀ at c s start n next₀ j₀ out next j = n - j
 
 loop-holds : tie.Need-loop-holds Inv-loop μ-loop
-loop-holds c = (search needs, printed-first _ (search needs), λ k h. absurd (omega arith))
+loop-holds c = (omega arith, printed-first _ (omega arith), λ k h. absurd (omega arith))
 
 put-line-requires : tie.Need-put-line-requires Inv-loop μ-loop
 put-line-requires c κs =
@@ -55,5 +54,5 @@ returns c =
 pub put-lines-spec : {M : Type 1} → statement M
 put-lines-spec =
     tie.close
-    (tie.spec Inv-loop μ-loop loop-holds (search needs) (search needs) (search needs) put-line-requires (search needs)
+    (tie.spec Inv-loop μ-loop loop-holds (omega arith) (omega arith) (omega arith) put-line-requires (omega arith)
     loop-less loop-again same-length returns)

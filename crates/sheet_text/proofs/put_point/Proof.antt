@@ -1,5 +1,4 @@
 -- `sheet_text::put_point` meets its contract: its parts follow one another.
-use borrow.Author.Needs.{needs}
 use native.Mathlib.Omega.{arith}
 use Rattle.sheet_text.specs.Printed.{pointText}
 use Rattle.sheet_text.proofs.Putting.{joined, double-long}
@@ -25,5 +24,5 @@ returns c =
 pub put-point-spec : {M : Type 1} → statement M
 put-point-spec =
     tie.close
-    (tie.spec (search needs) (search needs) (search needs) put-double-requires-2 (search needs) put-requires
-    (search needs) returns)
+    (tie.spec (omega arith) (omega arith) (omega arith) put-double-requires-2 (omega arith) put-requires
+    (omega arith) returns)

@@ -1,5 +1,4 @@
 -- `sheet_text::put_refusal` meets its contract: its parts follow one another.
-use borrow.Author.Needs.{needs}
 use native.Mathlib.Omega.{arith}
 use Rattle.sheet_text.specs.Printed.{refusalText}
 use Rattle.sheet_text.proofs.Putting.{joined, few-decimal}
@@ -18,4 +17,4 @@ returns c = joined (c .before .before .before .before .before .before .before .p
 pub put-refusal-spec : {M : Type 1} → statement M
 put-refusal-spec =
     tie.close
-    (tie.spec (search needs) (search needs) (search needs) put-requires (search needs) returns)
+    (tie.spec (omega arith) (omega arith) (omega arith) put-requires (omega arith) returns)

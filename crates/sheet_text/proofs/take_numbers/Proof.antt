@@ -1,5 +1,4 @@
 -- `sheet_text::take_numbers` meets its contract: a turn puts in one number.
-use borrow.Author.Needs.{needs}
 use mathlib.Core.Path.{_≡_, refl}
 use Prim.Native.Nat.{_-_, _≤_}
 use native.Mathlib.Omega.{arith}
@@ -18,10 +17,10 @@ abbrev μ-loop : tie.MeasureT-loop
 μ-loop s start n out₀ j₀ out j = n - j
 
 loop-holds : tie.Need-loop-holds Inv-loop μ-loop
-loop-holds c = (search needs, empty refl)
+loop-holds c = (omega arith, empty refl)
 
 loop-again : tie.Need-loop-again Inv-loop μ-loop
-loop-again c = (search needs, filled (c .before .before .loop .inv .1) (search needs) (c .double .ensures))
+loop-again c = (omega arith, filled (c .before .before .loop .inv .1) (omega arith) (c .double .ensures))
 
 returns : tie.Need-returns Inv-loop μ-loop
 unfolding numbersAt
@@ -32,5 +31,5 @@ returns c =
 pub take-numbers-spec : {M : Type 1} → statement M
 take-numbers-spec =
     tie.close
-    (tie.spec Inv-loop μ-loop loop-holds (search needs) (search needs) (search needs) (search needs) (search needs)
-    (search needs) (search needs) loop-again (search needs) returns)
+    (tie.spec Inv-loop μ-loop loop-holds (omega arith) (omega arith) (omega arith) (omega arith) (omega arith)
+    (omega arith) (omega arith) loop-again (omega arith) returns)

@@ -10,7 +10,6 @@ use Rattle.solve.specs.Outcome.{workOf}
 use Rattle.solve.specs.Buffer.{solveOf}
 use Rattle.solve.proofs.Flat.{flat-of-rows, rows-shaped-of}
 use Rattle.solve.proofs.Outcomes.{fits-true}
-use borrow.Author.Needs.{needs}
 use Rattle.solve.proofs.solve.Statement.{statement}
 use Rattle.solve.proofs.solve.Tie as tie
 
@@ -50,5 +49,5 @@ returns-4 c =
 pub solve-spec : {M : Type 1} → statement M
 solve-spec =
     tie.close
-    (tie.spec (search needs) returns (search needs) returns-2 (search needs) mul-if3 (search needs) returns-3
-    (search needs) (search needs) returns-4)
+    (tie.spec (omega arith) returns (omega arith) returns-2 (omega arith) mul-if3 (omega arith) returns-3
+    (omega arith) (omega arith) returns-4)

@@ -1,4 +1,5 @@
 -- `solve::solve_lent` meets its contract: the answers are copied out before the room is cleared.
+use native.Mathlib.Omega.{arith}
 use Prim.Native.Nat.{ℕ, _+_}
 use mathlib.Core.Path.{sym, _∙_}
 use mathlib.Core.Bool.{true}
@@ -7,7 +8,6 @@ use Rattle.solve.specs.Substitution.{solved}
 use Rattle.solve.specs.Outcome.{solutionOf}
 use Rattle.solve.proofs.Flat.{rest-of}
 use Rattle.solve.proofs.Answers.{solved-shaped}
-use borrow.Author.Needs.{needs}
 use Rattle.solve.proofs.solve_lent.Statement.{statement}
 use Rattle.solve.proofs.solve_lent.Tie as tie
 
@@ -47,5 +47,5 @@ returns-2 c =
 pub solve-lent-spec : {M : Type 1} → statement M
 solve-lent-spec =
     tie.close
-    (tie.spec (search needs) (search needs) (search needs) (search needs) (search needs) (search needs) (search needs)
-    (search needs) returns (search needs) (search needs) returns-2)
+    (tie.spec (omega arith) (omega arith) (omega arith) (omega arith) (omega arith) (omega arith) (omega arith)
+    (omega arith) returns (omega arith) (omega arith) returns-2)

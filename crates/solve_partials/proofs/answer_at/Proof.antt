@@ -8,7 +8,6 @@ use Rattle.solve.proofs.Flat.{read-cell}
 use Rattle.solve_partials.specs.Held.{held}
 use Rattle.solve_partials.proofs.Turns.{inside}
 use Rattle.solve_partials.proofs.Outcomes.{column-in, column-past}
-use borrow.Author.Needs.{needs}
 use Rattle.solve_partials.proofs.answer_at.Statement.{statement}
 use Rattle.solve_partials.proofs.answer_at.Tie as tie
 
@@ -54,4 +53,4 @@ returns-3 c =
 pub answer-at-spec : {M : Type 1} → statement M
 answer-at-spec =
     tie.close
-    (tie.spec (search needs) returns (search needs) (search needs) returns-2 (search needs) (search needs) mul-value-in add-value-in-3 value-in-requires returns-3)
+    (tie.spec (omega arith) returns (omega arith) (omega arith) returns-2 (omega arith) (omega arith) mul-value-in add-value-in-3 value-in-requires returns-3)

@@ -17,12 +17,12 @@ abbrev μ-loop : tie.MeasureT-loop
 μ-loop w₀ end i₀ w i = length w₀ - i
 
 loop-holds : tie.Need-loop-holds Inv-loop μ-loop
-loop-holds c = (refl, search needs, refl)
+loop-holds c = (refl, omega arith, refl)
 
 loop-again : tie.Need-loop-again Inv-loop μ-loop
 loop-again c =
     let l = c .before .loop in
-    (fill-next (l .i) 0 (c .before .before .args .ns .now) (l .ns) (l .inv .0) (search needs), search needs, search needs)
+    (fill-next (l .i) 0 (c .before .before .args .ns .now) (l .ns) (l .inv .0) (omega arith), omega arith, search needs)
 
 returns : tie.Need-returns Inv-loop μ-loop
 returns c =
@@ -37,4 +37,4 @@ returns c =
 pub clear-counts-spec : {M : Type 1} → statement M
 clear-counts-spec =
     tie.close
-    (tie.spec Inv-loop μ-loop loop-holds (search needs) (search needs) (search needs) loop-again (search needs) returns)
+    (tie.spec Inv-loop μ-loop loop-holds (omega arith) (omega arith) (omega arith) loop-again (omega arith) returns)

@@ -1,7 +1,7 @@
 -- `solve_partials::four_of` meets its contract: one answer after the other.
+use native.Mathlib.Omega.{arith}
 use mathlib.Core.List.{[], _∷_}
 use Rattle.meaning.specs.Search.{listed}
-use borrow.Author.Needs.{needs}
 use Rattle.solve_partials.proofs.four_of.Statement.{statement}
 use Rattle.solve_partials.proofs.four_of.Tie as tie
 
@@ -18,4 +18,4 @@ returns c =
 pub four-of-spec : {M : Type 1} → statement M
 four-of-spec =
     tie.close
-    (tie.spec (search needs) (search needs) (search needs) (search needs) returns)
+    (tie.spec (omega arith) (omega arith) (omega arith) (omega arith) returns)

@@ -3,7 +3,6 @@ use Prim.Native.Nat.{_+_, _*_, _≤_}
 use native.Mathlib.Nat.{mul-le-mul-right}
 use native.Mathlib.Omega.{arith}
 use borrow.Author.Tests.{le-leb, lt-leb}
-use borrow.Author.Needs.{needs}
 use Rattle.solve_partials.proofs.has_room.Statement.{statement}
 use Rattle.solve_partials.proofs.has_room.Tie as tie
 
@@ -43,4 +42,4 @@ returns-5 c =
 pub has-room-spec : {M : Type 1} → statement M
 has-room-spec =
     tie.close
-    (tie.spec returns returns-2 returns-3 (search needs) mul-if4 returns-4 (search needs) mul-result (search needs) mul-result-2 returns-5)
+    (tie.spec returns returns-2 returns-3 (omega arith) mul-if4 returns-4 (omega arith) mul-result (omega arith) mul-result-2 returns-5)

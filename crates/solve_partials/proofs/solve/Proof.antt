@@ -1,9 +1,9 @@
 -- `solve_partials::solve` meets its contract: a case for rows that do not fit, and one for rows that do.
+use native.Mathlib.Omega.{arith}
 use mathlib.Core.Path.{sym, _∙_}
 use borrow.Author.Tests.{not-true, not-false}
 use Rattle.solve_partials.specs.Outcome.{solutionIn, doublesLeft, countsLeft}
 use Rattle.solve_partials.proofs.Outcomes.{fitting}
-use borrow.Author.Needs.{needs}
 use Rattle.solve_partials.proofs.solve.Statement.{statement}
 use Rattle.solve_partials.proofs.solve.Tie as tie
 
@@ -28,4 +28,4 @@ returns-2 c =
 pub solve-spec : {M : Type 1} → statement M
 solve-spec =
     tie.close
-    (tie.spec (search needs) (search needs) returns solve-front-requires (search needs) (search needs) returns-2)
+    (tie.spec (omega arith) (omega arith) returns solve-front-requires (omega arith) (omega arith) returns-2)

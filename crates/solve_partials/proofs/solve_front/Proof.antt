@@ -11,7 +11,6 @@ use denote.Ref.{now}
 use Rattle.meaning.specs.Scalar.{zero64}
 use Rattle.solve_partials.specs.Outcome.{roomOf, rowsIn}
 use Rattle.solve_partials.proofs.Outcomes.{held-front, front-room, front-rows, front-shaped}
-use borrow.Author.Needs.{needs}
 use Rattle.solve_partials.proofs.solve_front.Statement.{statement}
 use Rattle.solve_partials.proofs.solve_front.Tie as tie
 
@@ -54,4 +53,4 @@ returns c =
 pub solve-front-spec : {M : Type 1} → statement M
 solve-front-spec =
     tie.close
-    (tie.spec (search needs) (search needs) (search needs) (search needs) (search needs) slice-aggregate-solve-lent (search needs) slice-aggregate-solve-lent-2 solve-lent-requires (search needs) (search needs) returns)
+    (tie.spec (omega arith) (omega arith) (omega arith) (omega arith) (omega arith) slice-aggregate-solve-lent (omega arith) slice-aggregate-solve-lent-2 solve-lent-requires (omega arith) (omega arith) returns)

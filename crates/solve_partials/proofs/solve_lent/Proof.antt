@@ -9,7 +9,6 @@ use Rattle.solve.specs.Substitution.{solved}
 use Rattle.solve.proofs.Answers.{solved-shaped}
 use Rattle.solve_partials.proofs.Cells.{room-kept}
 use Rattle.solve_partials.proofs.Outcomes.{fine-four, none-four}
-use borrow.Author.Needs.{needs}
 use Rattle.solve_partials.proofs.solve_lent.Statement.{statement}
 use Rattle.solve_partials.proofs.solve_lent.Tie as tie
 
@@ -63,4 +62,4 @@ returns-2 c =
 pub solve-lent-spec : {M : Type 1} → statement M
 solve-lent-spec =
     tie.close
-    (tie.spec (search needs) four-of-requires (search needs) four-of-requires-2 (search needs) (search needs) (search needs) (search needs) returns (search needs) (search needs) (search needs) returns-2)
+    (tie.spec (omega arith) four-of-requires (omega arith) four-of-requires-2 (omega arith) (omega arith) (omega arith) (omega arith) returns (omega arith) (omega arith) (omega arith) returns-2)

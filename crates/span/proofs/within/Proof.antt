@@ -3,7 +3,6 @@ use mathlib.Core.Path.{_≡_}
 use mathlib.Core.Bool.{true}
 use native.Mathlib.Omega.{arith}
 use denote.Ref.{now}
-use borrow.Author.Needs.{needs}
 use borrow.Author.Tests.{lt-ltb, le-ltb, lt-leb, le-leb}
 use Rattle.meaning.proofs.Tests.{no}
 use Rattle.span.specs.Within.{isIndex, within}
@@ -42,7 +41,7 @@ returns-6 : tie.Need-returns-6
 unfolding within
 returns-6 c =
     let t = c .before .before .before in
-    (rw (index (t .before .before), t .if5 .left, c .before .if6 .taken), λ h. (search needs, omega arith))
+    (rw (index (t .before .before), t .if5 .left, c .before .if6 .taken), λ h. (omega arith, omega arith))
 
 returns-7 : tie.Need-returns-7
 unfolding within
@@ -51,5 +50,5 @@ returns-7 c = let t = c .before .before in (rw (index (t .before .before), t .if
 pub within-spec : {M : Type 1} → statement M
 within-spec =
     tie.close
-    (tie.spec returns returns-2 returns-3 returns-4 (search needs) returns-5 (search needs) (search needs) (search needs) (search needs)
-    (search needs) returns-6 returns-7)
+    (tie.spec returns returns-2 returns-3 returns-4 (omega arith) returns-5 (omega arith) (omega arith) (omega arith) (omega arith)
+    (omega arith) returns-6 returns-7)

@@ -1,7 +1,7 @@
 -- `threshdune::threshdune_build_control` meets its contract.
+use native.Mathlib.Omega.{arith}
 use mathlib.Core.Path.{ap}
 use mathlib.Core.List.{[]}
-use borrow.Author.Needs.{needs}
 use Rattle.build.specs.Build.{Sliced, sliced}
 use Rattle.threshdune.proofs.threshdune_build_control.Statement.{statement}
 use Rattle.threshdune.proofs.threshdune_build_control.Tie as tie
@@ -11,4 +11,4 @@ returns c = ap (λ (s : Sliced). sliced (s .refusal) (s .control) (s .knots) [])
 
 pub threshdune-build-control-spec : {M : Type 1} → statement M
 threshdune-build-control-spec =
-    tie.close (tie.spec (search needs) (search needs) (search needs) (search needs) returns)
+    tie.close (tie.spec (omega arith) (omega arith) (omega arith) (omega arith) returns)

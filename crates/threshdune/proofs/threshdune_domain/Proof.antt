@@ -1,6 +1,6 @@
 -- `threshdune::threshdune_domain` meets its contract.
+use native.Mathlib.Omega.{arith}
 use mathlib.Core.Path.{ap, _∙_}
-use borrow.Author.Needs.{needs}
 use denote.Ref.{now}
 use Rattle.outcome.specs.Told.{Values}
 use Rattle.c_curves.specs.Curves.{handed}
@@ -16,4 +16,4 @@ returns c =
 
 pub threshdune-domain-spec : {M : Type 1} → statement M
 threshdune-domain-spec =
-    tie.close (tie.spec (search needs) (search needs) returns)
+    tie.close (tie.spec (omega arith) (omega arith) returns)

@@ -1,6 +1,6 @@
 -- `threshdune::threshdune_length` meets its contract.
+use native.Mathlib.Omega.{arith}
 use mathlib.Core.Path.{ap, _∙_}
-use borrow.Author.Needs.{needs}
 use denote.Ref.{now}
 use Rattle.outcome.specs.Told.{Values}
 use Rattle.c_curves.specs.Curves.{handed}
@@ -12,4 +12,4 @@ returns c = let l = c .before .before in c .hand-number .ensures ∙ ap (λ (v :
 
 pub threshdune-length-spec : {M : Type 1} → statement M
 threshdune-length-spec =
-    tie.close (tie.spec (search needs) (search needs) returns)
+    tie.close (tie.spec (omega arith) (omega arith) returns)

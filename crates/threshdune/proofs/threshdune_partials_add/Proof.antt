@@ -1,5 +1,5 @@
 -- `threshdune::threshdune_partials_add` meets its contract.
-use borrow.Author.Needs.{needs}
+use native.Mathlib.Omega.{arith}
 use Rattle.threshdune.proofs.threshdune_partials_add.Statement.{statement}
 use Rattle.threshdune.proofs.threshdune_partials_add.Tie as tie
 
@@ -11,4 +11,4 @@ returns c =
 pub threshdune-partials-add-spec : {M : Type 1} → statement M
 threshdune-partials-add-spec =
     tie.close
-    (tie.spec (search needs) (search needs) (search needs) (search needs) (search needs) returns)
+    (tie.spec (omega arith) (omega arith) (omega arith) (omega arith) (omega arith) returns)

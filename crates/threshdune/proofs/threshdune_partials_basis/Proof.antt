@@ -1,5 +1,5 @@
 -- `threshdune::threshdune_partials_basis` meets its contract.
-use borrow.Author.Needs.{needs}
+use native.Mathlib.Omega.{arith}
 use Rattle.threshdune.proofs.threshdune_partials_basis.Statement.{statement}
 use Rattle.threshdune.proofs.threshdune_partials_basis.Tie as tie
 
@@ -11,4 +11,4 @@ returns c =
 pub threshdune-partials-basis-spec : {M : Type 1} → statement M
 threshdune-partials-basis-spec =
     tie.close
-    (tie.spec (search needs) (search needs) (search needs) (search needs) (search needs) (search needs) returns)
+    (tie.spec (omega arith) (omega arith) (omega arith) (omega arith) (omega arith) (omega arith) returns)

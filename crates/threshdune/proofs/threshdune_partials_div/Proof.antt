@@ -1,5 +1,5 @@
 -- `threshdune::threshdune_partials_div` meets its contract.
-use borrow.Author.Needs.{needs}
+use native.Mathlib.Omega.{arith}
 use Rattle.threshdune.proofs.threshdune_partials_div.Statement.{statement}
 use Rattle.threshdune.proofs.threshdune_partials_div.Tie as tie
 
@@ -11,4 +11,4 @@ returns c =
 pub threshdune-partials-div-spec : {M : Type 1} → statement M
 threshdune-partials-div-spec =
     tie.close
-    (tie.spec (search needs) (search needs) (search needs) (search needs) (search needs) returns)
+    (tie.spec (omega arith) (omega arith) (omega arith) (omega arith) (omega arith) returns)

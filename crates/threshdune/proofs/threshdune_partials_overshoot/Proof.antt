@@ -1,5 +1,5 @@
 -- `threshdune::threshdune_partials_overshoot` meets its contract.
-use borrow.Author.Needs.{needs}
+use native.Mathlib.Omega.{arith}
 use Rattle.threshdune.proofs.threshdune_partials_overshoot.Statement.{statement}
 use Rattle.threshdune.proofs.threshdune_partials_overshoot.Tie as tie
 
@@ -10,4 +10,4 @@ returns c =
 
 pub threshdune-partials-overshoot-spec : {M : Type 1} → statement M
 threshdune-partials-overshoot-spec =
-    tie.close (tie.spec (search needs) (search needs) (search needs) (search needs) returns)
+    tie.close (tie.spec (omega arith) (omega arith) (omega arith) (omega arith) returns)

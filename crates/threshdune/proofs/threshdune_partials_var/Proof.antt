@@ -1,5 +1,5 @@
 -- `threshdune::threshdune_partials_var` meets its contract.
-use borrow.Author.Needs.{needs}
+use native.Mathlib.Omega.{arith}
 use Rattle.threshdune.proofs.threshdune_partials_var.Statement.{statement}
 use Rattle.threshdune.proofs.threshdune_partials_var.Tie as tie
 
@@ -8,4 +8,4 @@ returns c = rw (c .before .before .before .before .before .var .ensures) at (c .
 
 pub threshdune-partials-var-spec : {M : Type 1} → statement M
 threshdune-partials-var-spec =
-    tie.close (tie.spec (search needs) (search needs) (search needs) returns)
+    tie.close (tie.spec (omega arith) (omega arith) (omega arith) returns)

@@ -1,5 +1,5 @@
 -- `threshdune::threshdune_plane_add` meets its contract.
-use borrow.Author.Needs.{needs}
+use native.Mathlib.Omega.{arith}
 use Rattle.threshdune.proofs.threshdune_plane_add.Statement.{statement}
 use Rattle.threshdune.proofs.threshdune_plane_add.Tie as tie
 
@@ -8,4 +8,4 @@ returns c = rw (c .before .before .before .before .add .ensures) at (c .before .
 
 pub threshdune-plane-add-spec : {M : Type 1} → statement M
 threshdune-plane-add-spec =
-    tie.close (tie.spec (search needs) (search needs) (search needs) returns)
+    tie.close (tie.spec (omega arith) (omega arith) (omega arith) returns)

@@ -1,8 +1,8 @@
 -- `threshdune::threshdune_plane_partials_cross` meets its contract.
+use native.Mathlib.Omega.{arith}
 use mathlib.Core.Path.{_∙_}
 use Rattle.partials.specs.Dual.{dual}
 use Rattle.plane.specs.Vector.{crossV}
-use borrow.Author.Needs.{needs}
 use Rattle.threshdune.proofs.threshdune_plane_partials_cross.Statement.{statement}
 use Rattle.threshdune.proofs.threshdune_plane_partials_cross.Tie as tie
 
@@ -15,4 +15,4 @@ returns c =
 pub threshdune-plane-partials-cross-spec : {M : Type 1} → statement M
 threshdune-plane-partials-cross-spec =
     tie.close
-    (tie.spec (search needs) (search needs) (search needs) (search needs) (search needs) returns)
+    (tie.spec (omega arith) (omega arith) (omega arith) (omega arith) (omega arith) returns)

@@ -1,8 +1,8 @@
 -- `threshdune::threshdune_plane_partials_norm` meets its contract.
+use native.Mathlib.Omega.{arith}
 use mathlib.Core.Path.{_∙_, ap}
 use Rattle.partials.specs.Dual.{dual}
 use Rattle.plane.specs.Vector.{normV}
-use borrow.Author.Needs.{needs}
 use Rattle.threshdune.proofs.threshdune_plane_partials_norm.Statement.{statement}
 use Rattle.threshdune.proofs.threshdune_plane_partials_norm.Tie as tie
 
@@ -13,4 +13,4 @@ returns c =
 
 pub threshdune-plane-partials-norm-spec : {M : Type 1} → statement M
 threshdune-plane-partials-norm-spec =
-    tie.close (tie.spec (search needs) (search needs) (search needs) (search needs) returns)
+    tie.close (tie.spec (omega arith) (omega arith) (omega arith) (omega arith) returns)

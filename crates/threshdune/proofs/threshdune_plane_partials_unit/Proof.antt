@@ -1,8 +1,8 @@
 -- `threshdune::threshdune_plane_partials_unit` meets its contract.
+use native.Mathlib.Omega.{arith}
 use mathlib.Core.Path.{_∙_, ap}
 use Rattle.partials.specs.Dual.{dual}
 use Rattle.plane.specs.Vector.{unitV}
-use borrow.Author.Needs.{needs}
 use Rattle.threshdune.proofs.threshdune_plane_partials_unit.Statement.{statement}
 use Rattle.threshdune.proofs.threshdune_plane_partials_unit.Tie as tie
 
@@ -14,4 +14,4 @@ returns c =
 pub threshdune-plane-partials-unit-spec : {M : Type 1} → statement M
 threshdune-plane-partials-unit-spec =
     tie.close
-    (tie.spec (search needs) (search needs) (search needs) (search needs) (search needs) returns)
+    (tie.spec (omega arith) (omega arith) (omega arith) (omega arith) (omega arith) returns)

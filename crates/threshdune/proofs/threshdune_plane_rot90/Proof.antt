@@ -1,5 +1,5 @@
 -- `threshdune::threshdune_plane_rot90` meets its contract.
-use borrow.Author.Needs.{needs}
+use native.Mathlib.Omega.{arith}
 use Rattle.threshdune.proofs.threshdune_plane_rot90.Statement.{statement}
 use Rattle.threshdune.proofs.threshdune_plane_rot90.Tie as tie
 
@@ -8,4 +8,4 @@ returns c = rw (c .before .before .before .before .rot90 .ensures) at (c .before
 
 pub threshdune-plane-rot90-spec : {M : Type 1} → statement M
 threshdune-plane-rot90-spec =
-    tie.close (tie.spec (search needs) (search needs) (search needs) returns)
+    tie.close (tie.spec (omega arith) (omega arith) (omega arith) returns)

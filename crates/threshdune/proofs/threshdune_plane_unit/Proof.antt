@@ -1,5 +1,5 @@
 -- `threshdune::threshdune_plane_unit` meets its contract.
-use borrow.Author.Needs.{needs}
+use native.Mathlib.Omega.{arith}
 use Rattle.threshdune.proofs.threshdune_plane_unit.Statement.{statement}
 use Rattle.threshdune.proofs.threshdune_plane_unit.Tie as tie
 
@@ -8,4 +8,4 @@ returns c = rw (c .before .before .before .before .unit .ensures) at (c .before 
 
 pub threshdune-plane-unit-spec : {M : Type 1} → statement M
 threshdune-plane-unit-spec =
-    tie.close (tie.spec (search needs) (search needs) (search needs) returns)
+    tie.close (tie.spec (omega arith) (omega arith) (omega arith) returns)

@@ -1,5 +1,5 @@
 -- `threshdune::threshdune_record_evaluate` meets its contract.
-use borrow.Author.Needs.{needs}
+use native.Mathlib.Omega.{arith}
 use Rattle.threshdune.proofs.threshdune_record_evaluate.Statement.{statement}
 use Rattle.threshdune.proofs.threshdune_record_evaluate.Tie as tie
 
@@ -8,4 +8,4 @@ returns c = let e = c .before .before in rw (e .before .before .read-curve .ensu
 
 pub threshdune-record-evaluate-spec : {M : Type 1} → statement M
 threshdune-record-evaluate-spec =
-    tie.close (tie.spec (search needs) (search needs) (search needs) returns)
+    tie.close (tie.spec (omega arith) (omega arith) (omega arith) returns)

@@ -1,6 +1,6 @@
 -- `threshdune::threshdune_record_length` meets its contract.
+use native.Mathlib.Omega.{arith}
 use mathlib.Core.Path.{ap, _∙_}
-use borrow.Author.Needs.{needs}
 use denote.Ref.{now}
 use Rattle.outcome.specs.Told.{Values}
 use Rattle.curve.specs.declared.Curve.{Curve}
@@ -20,4 +20,4 @@ returns c =
 
 pub threshdune-record-length-spec : {M : Type 1} → statement M
 threshdune-record-length-spec =
-    tie.close (tie.spec (search needs) (search needs) (search needs) returns)
+    tie.close (tie.spec (omega arith) (omega arith) (omega arith) returns)

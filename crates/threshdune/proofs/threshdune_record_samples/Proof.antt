@@ -1,5 +1,5 @@
 -- `threshdune::threshdune_record_samples` meets its contract.
-use borrow.Author.Needs.{needs}
+use native.Mathlib.Omega.{arith}
 use Rattle.threshdune.proofs.threshdune_record_samples.Statement.{statement}
 use Rattle.threshdune.proofs.threshdune_record_samples.Tie as tie
 
@@ -8,4 +8,4 @@ returns c = let e = c .before .before in rw (e .before .before .before .read-cur
 
 pub threshdune-record-samples-spec : {M : Type 1} → statement M
 threshdune-record-samples-spec =
-    tie.close (tie.spec (search needs) (search needs) (search needs) returns)
+    tie.close (tie.spec (omega arith) (omega arith) (omega arith) returns)

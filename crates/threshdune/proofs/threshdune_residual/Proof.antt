@@ -1,6 +1,6 @@
 -- `threshdune::threshdune_residual` meets its contract.
+use native.Mathlib.Omega.{arith}
 use borrow.Author.Tests.{eq-eqb, ne-eqb}
-use borrow.Author.Needs.{needs}
 use Rattle.threshdune.proofs.threshdune_residual.Statement.{statement}
 use Rattle.threshdune.proofs.threshdune_residual.Tie as tie
 
@@ -21,5 +21,5 @@ returns-2 c =
 pub threshdune-residual-spec : {M : Type 1} → statement M
 threshdune-residual-spec =
     tie.close
-    (tie.spec (search needs) (search needs) (search needs) (search needs) (search needs) returns (search needs)
-    (search needs) (search needs) (search needs) (search needs) returns-2)
+    (tie.spec (omega arith) (omega arith) (omega arith) (omega arith) (omega arith) returns (omega arith)
+    (omega arith) (omega arith) (omega arith) (omega arith) returns-2)

@@ -1,6 +1,6 @@
 -- `partials::Dv::add` meets its contract.
+use native.Mathlib.Omega.{arith}
 use Rattle.partials.specs.Dual.{addDv}
-use borrow.Author.Needs.{needs}
 use Rattle.partials.proofs.Dv.add.Statement.{statement}
 use Rattle.partials.proofs.Dv.add.Tie as tie
 
@@ -9,4 +9,4 @@ unfolding addDv
 returns c = c .zip .ensures
 
 pub add-spec : {M : Type 1} → statement M
-add-spec = tie.close (tie.spec (search needs) returns)
+add-spec = tie.close (tie.spec (omega arith) returns)

@@ -1,6 +1,6 @@
 -- `partials::Dv::mul` meets its contract.
+use native.Mathlib.Omega.{arith}
 use Rattle.partials.specs.Dual.{mulDv}
-use borrow.Author.Needs.{needs}
 use Rattle.partials.proofs.Dv.mul.Statement.{statement}
 use Rattle.partials.proofs.Dv.mul.Tie as tie
 
@@ -9,4 +9,4 @@ unfolding mulDv
 returns c = c .zip .ensures
 
 pub mul-spec : {M : Type 1} → statement M
-mul-spec = tie.close (tie.spec (search needs) returns)
+mul-spec = tie.close (tie.spec (omega arith) returns)

@@ -1,6 +1,6 @@
 -- `partials::Dv::neg` meets its contract.
+use native.Mathlib.Omega.{arith}
 use Rattle.partials.specs.Dual.{negDv}
-use borrow.Author.Needs.{needs}
 use Rattle.partials.proofs.Dv.neg.Statement.{statement}
 use Rattle.partials.proofs.Dv.neg.Tie as tie
 
@@ -9,4 +9,4 @@ unfolding negDv
 returns c = c .map .ensures
 
 pub neg-spec : {M : Type 1} → statement M
-neg-spec = tie.close (tie.spec (search needs) returns)
+neg-spec = tie.close (tie.spec (omega arith) returns)

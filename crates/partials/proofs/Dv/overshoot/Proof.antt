@@ -1,7 +1,7 @@
 -- `partials::Dv::overshoot` meets its contract.
+use native.Mathlib.Omega.{arith}
 use mathlib.Core.Path.{_∙_}
 use Rattle.partials.specs.Dual.{overshootDv}
-use borrow.Author.Needs.{needs}
 use Rattle.partials.proofs.Dv.overshoot.Statement.{statement}
 use Rattle.partials.proofs.Dv.overshoot.Tie as tie
 
@@ -20,4 +20,4 @@ returns-3 c = c .cst3 .ensures ∙ rw (c .before .before .before .if1 .left, c .
 pub overshoot-spec : {M : Type 1} → statement M
 overshoot-spec =
     tie.close
-    (tie.spec (search needs) (search needs) returns (search needs) (search needs) returns-2 (search needs) returns-3)
+    (tie.spec (omega arith) (omega arith) returns (omega arith) (omega arith) returns-2 (omega arith) returns-3)

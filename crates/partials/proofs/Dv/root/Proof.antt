@@ -1,7 +1,7 @@
 -- `partials::Dv::root` meets its contract.
+use native.Mathlib.Omega.{arith}
 use mathlib.Core.Path.{_∙_}
 use Rattle.partials.specs.Dual.{rootDv}
-use borrow.Author.Needs.{needs}
 use Rattle.partials.proofs.Dv.root.Statement.{statement}
 use Rattle.partials.proofs.Dv.root.Tie as tie
 
@@ -14,4 +14,4 @@ unfolding rootDv
 returns-2 c = c .map .ensures ∙ rw (c .before .root .ensures, c .before .before .if1 .left)
 
 pub root-spec : {M : Type 1} → statement M
-root-spec = tie.close (tie.spec (search needs) returns (search needs) (search needs) returns-2)
+root-spec = tie.close (tie.spec (omega arith) returns (omega arith) (omega arith) returns-2)

@@ -1,8 +1,8 @@
 -- `partials::Dv::var` meets its contract.
+use native.Mathlib.Omega.{arith}
 use mathlib.Core.Path.{_∙_}
 use borrow.Author.Tests.{le-leb, lt-leb, lt-ltb, le-ltb}
 use Rattle.partials.specs.Dual.{varDv}
-use borrow.Author.Needs.{needs}
 use Rattle.partials.proofs.Dv.var.Statement.{statement}
 use Rattle.partials.proofs.Dv.var.Tie as tie
 
@@ -21,5 +21,5 @@ returns-3 c = simp (le-leb _ _ (c .before .before .if1 .left), lt-ltb _ _ (c .be
 pub var-spec : {M : Type 1} → statement M
 var-spec =
     tie.close
-    (tie.spec (search needs) returns (search needs) returns-2 (search needs) (search needs) (search needs)
-    (search needs) (search needs) returns-3)
+    (tie.spec (omega arith) returns (omega arith) returns-2 (omega arith) (omega arith) (omega arith)
+    (omega arith) (omega arith) returns-3)

@@ -1,11 +1,11 @@
 -- `solve::dense::eliminate` meets its contract: the columns below col are eliminated, and the flag is their verdict.
+use native.Mathlib.Omega.{arith}
 use Prim.Native.Nat.{_-_}
 use Rattle.meaning.specs.Scalar.{plain}
 use Rattle.solve.specs.Elimination.{columnDone, eliminated}
 use Rattle.solve.specs.Verdicts.{columnOk, eliminatedOk}
 use Rattle.solve.proofs.Passes.{Pass, begun, further, over}
 use Rattle.solve.proofs.Steps.{column-shaped}
-use borrow.Author.Needs.{needs}
 use Rattle.solve.proofs.dense.eliminate.Statement.{statement}
 use Rattle.solve.proofs.dense.eliminate.Tie as tie
 
@@ -28,10 +28,10 @@ loop-again c =
 
 returns : tie.Need-returns Inv-loop μ-loop
 unfolding eliminated eliminatedOk
-returns c = over (c .before .loop .inv) (search needs)
+returns c = over (c .before .loop .inv) (omega arith)
 
 pub eliminate-spec : {M : Type 1} → statement M
 eliminate-spec =
     tie.close
-    (tie.spec Inv-loop μ-loop loop-holds (search needs) (search needs) (search needs) (search needs) loop-again
-    (search needs) returns)
+    (tie.spec Inv-loop μ-loop loop-holds (omega arith) (omega arith) (omega arith) (omega arith) loop-again
+    (omega arith) returns)

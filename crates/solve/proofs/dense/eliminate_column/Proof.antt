@@ -12,7 +12,6 @@ use Rattle.solve.specs.Elimination.{exchanged, reducedRows, pivoted, col
 use Rattle.solve.specs.Verdicts.{reducedRowsOk, columnOk}
 use Rattle.solve.proofs.Pivots.{best-is}
 use Rattle.solve.proofs.Steps.{pivoted-shaped}
-use borrow.Author.Needs.{needs}
 use Rattle.solve.proofs.dense.eliminate_column.Statement.{statement}
 use Rattle.solve.proofs.dense.eliminate_column.Tie as tie
 
@@ -54,5 +53,5 @@ returns c =
 pub eliminate-column-spec : {M : Type 1} → statement M
 eliminate-column-spec =
     tie.close
-    (tie.spec (search needs) (search needs) (search needs) (search needs) (search needs) (search needs)
-    slice-aggregate-reduce-rows reduce-rows-requires (search needs) returns)
+    (tie.spec (omega arith) (omega arith) (omega arith) (omega arith) (omega arith) (omega arith)
+    slice-aggregate-reduce-rows reduce-rows-requires (omega arith) returns)

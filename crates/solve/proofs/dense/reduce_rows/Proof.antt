@@ -15,7 +15,6 @@ use Rattle.meaning.proofs.Every.{every-next}
 use Rattle.solve.proofs.Lists.{blend, blend-all}
 use Rattle.solve.proofs.Flat.{shaped-set}
 use Rattle.solve.proofs.Steps.{reduced-length, rows-length, rows-start, rows-read, rows-turn, rows-fine-start, rows-fine-at}
-use borrow.Author.Needs.{needs}
 use Rattle.solve.proofs.dense.reduce_rows.Statement.{statement}
 use Rattle.solve.proofs.dense.reduce_rows.Tie as tie
 
@@ -43,8 +42,8 @@ loop-holds c =
             verdict = rows-fine-start plain (a .n) (a .col) (a .p .now) (a .m) M;
             shape = rw same at sh;
           },
-      search needs,
-      search needs,
+      omega arith,
+      omega arith,
       refl,
     )
 
@@ -69,8 +68,8 @@ loop-again c =
             shape = rw turn at
                 (shaped-set (l .r) (reduced plain (a .n) (a .col) p x) (old .shape) h (reduced-length plain (a .n) (a .col) p x ∙ old .shape .each (l .r) h));
           },
-      search needs,
-      search needs,
+      omega arith,
+      omega arith,
       omega (arith, call .kept),
     )
 
@@ -91,5 +90,5 @@ returns c =
 pub reduce-rows-spec : {M : Type 1} → statement M
 reduce-rows-spec =
     tie.close
-    (tie.spec Inv-loop μ-loop (search needs) loop-holds (search needs) (search needs) (search needs) (search needs)
-    loop-again (search needs) returns)
+    (tie.spec Inv-loop μ-loop (omega arith) loop-holds (omega arith) (omega arith) (omega arith) (omega arith)
+    loop-again (omega arith) returns)

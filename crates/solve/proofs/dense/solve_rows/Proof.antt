@@ -7,7 +7,6 @@ use Rattle.solve.specs.Elimination.{eliminated}
 use Rattle.solve.specs.Substitution.{solved}
 use Rattle.solve.proofs.Steps.{eliminated-shaped}
 use Rattle.solve.proofs.Stored.{solved-along}
-use borrow.Author.Needs.{needs}
 use Rattle.solve.proofs.dense.solve_rows.Statement.{statement}
 use Rattle.solve.proofs.dense.solve_rows.Tie as tie
 
@@ -23,4 +22,4 @@ returns c =
 pub solve-rows-spec : {M : Type 1} → statement M
 solve-rows-spec =
     tie.close
-    (tie.spec (search needs) (search needs) (search needs) (search needs) (search needs) returns)
+    (tie.spec (omega arith) (omega arith) (omega arith) (omega arith) (omega arith) returns)

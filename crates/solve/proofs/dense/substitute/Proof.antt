@@ -6,7 +6,6 @@ use Rattle.solve.specs.Substitution.{answeredUp, backed}
 use Rattle.solve.specs.Verdicts.{answeredUpOk, backedOk}
 use Rattle.solve.proofs.Passes.{Pass, begun, further, over}
 use Rattle.solve.proofs.Answers.{answered-shaped}
-use borrow.Author.Needs.{needs}
 use Rattle.solve.proofs.dense.substitute.Statement.{statement}
 use Rattle.solve.proofs.dense.substitute.Tie as tie
 
@@ -29,10 +28,10 @@ loop-again c =
 
 returns : tie.Need-returns Inv-loop μ-loop
 unfolding backed backedOk
-returns c = over (c .before .loop .inv) (search needs)
+returns c = over (c .before .loop .inv) (omega arith)
 
 pub substitute-spec : {M : Type 1} → statement M
 substitute-spec =
     tie.close
-    (tie.spec Inv-loop μ-loop loop-holds (search needs) (search needs) (search needs) (search needs) (search needs)
-    (search needs) loop-again (search needs) returns)
+    (tie.spec Inv-loop μ-loop loop-holds (omega arith) (omega arith) (omega arith) (omega arith) (omega arith)
+    (omega arith) loop-again (omega arith) returns)

@@ -68,6 +68,6 @@ returns c =
 pub answer-row-spec : {M : Type 1} → statement M
 answer-row-spec =
     tie.close
-    (tie.spec mul-base add-inv mul-inv slice-read-inv (search needs) (search needs) (search needs) add-w mul-w
-    slice-write-w (search needs) add-w-3 mul-w-2 slice-write-w-2 (search needs) (search needs) (search needs)
+    (tie.spec mul-base add-inv mul-inv slice-read-inv (omega arith) (omega arith) (omega arith) add-w mul-w
+    slice-write-w (omega arith) add-w-3 mul-w-2 slice-write-w-2 (omega arith) (omega arith) (omega arith)
     (search needs) returns)

@@ -19,7 +19,7 @@ abbrev μ-loop : tie.MeasureT-loop
 loop-again : tie.Need-loop-again Inv-loop μ-loop
 loop-again c =
     let l = c .before .loop in
-    (fill-next (l .i) zero64 (c .before .before .args .w .now) (l .w) (l .inv .0) (omega (arith, c .before .before .pre)), search needs, search needs)
+    (fill-next (l .i) zero64 (c .before .before .args .w .now) (l .w) (l .inv .0) (omega (arith, c .before .before .pre)), omega arith, search needs)
 
 returns : tie.Need-returns Inv-loop μ-loop
 returns c =
@@ -29,5 +29,5 @@ returns c =
 pub clear-spec : {M : Type 1} → statement M
 clear-spec =
     tie.close
-    (tie.spec Inv-loop μ-loop (search needs) (search needs) (search needs) (search needs) (search needs) loop-again
-    (search needs) returns)
+    (tie.spec Inv-loop μ-loop (search needs) (omega arith) (omega arith) (omega arith) (omega arith) loop-again
+    (omega arith) returns)

@@ -22,7 +22,7 @@ abbrev μ-loop : tie.MeasureT-loop
 μ-loop w m s c out₀ r₀ out r = m - r
 
 loop-holds : tie.Need-loop-holds Inv-loop μ-loop
-loop-holds c = (λ M rest e sh. refl, search needs, refl)
+loop-holds c = (λ M rest e sh. refl, omega arith, refl)
 
 -- row r ends within the rows
 room : (c : tie.In-loop Inv-loop μ-loop) → let a = c .before .before .args in c .before .loop .r * a .s + a .s ≤ a .m * a .s
@@ -50,7 +50,7 @@ loop-again c =
       λ M rest e sh.
           blend-next (column plain (a .m) M (a .c) z) z (l .out) (l .r) _ nan (l .inv .0 M rest e sh) (column-length plain (a .m) M (a .c) z (p .1)) (omega arith)
           (read-cell rest (a .w .now) (l .r) e sh t (a .c) (p .0) nan ∙ sym (column-at plain (a .m) M (a .c) z (p .1) (l .r) t)),
-      search needs,
+      omega arith,
       search needs,
     )
 
@@ -64,5 +64,5 @@ returns c =
 pub column-of-spec : {M : Type 1} → statement M
 column-of-spec =
     tie.close
-    (tie.spec Inv-loop μ-loop loop-holds mul-out add-out mul-out-2 shared-slice-read-out (search needs) (search needs)
-    (search needs) (search needs) loop-again returns)
+    (tie.spec Inv-loop μ-loop loop-holds mul-out add-out mul-out-2 shared-slice-read-out (omega arith) (omega arith)
+    (omega arith) (omega arith) loop-again returns)

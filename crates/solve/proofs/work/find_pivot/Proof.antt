@@ -14,7 +14,6 @@ use Rattle.solve.specs.Rows.{ofRows}
 use Rattle.solve.specs.Best.{better, bestAmong}
 use Rattle.solve.proofs.Lists.{row-le}
 use Rattle.solve.proofs.Flat.{read-cell}
-use borrow.Author.Needs.{needs}
 use Rattle.solve.proofs.work.find_pivot.Statement.{statement}
 use Rattle.solve.proofs.work.find_pivot.Tie as tie
 
@@ -46,7 +45,7 @@ shared-slice-read-top : tie.Need-shared-slice-read-top Inv-loop μ-loop
 shared-slice-read-top c = omega (arith, room (c .before .before))
 
 loop-holds : tie.Need-loop-holds Inv-loop μ-loop
-loop-holds c = (search needs, search needs, search needs, refl, λ M rest e sh. first (omega arith))
+loop-holds c = (omega arith, omega arith, omega arith, refl, λ M rest e sh. first (omega arith))
 
 mul-v : tie.Need-mul-v Inv-loop μ-loop
 mul-v c = omega (arith, below c)
@@ -99,10 +98,10 @@ returns c =
     let a = c .before .before .before .before .args in
     let l = c .before .loop in
     let e : a .lo + 1 + a .n - (a .lo + 1) ≡ a .n = omega arith in
-    (search needs, λ M rest q sh. last (l .inv .4 M rest q sh) (search needs) ∙ ap (λ (n : ℕ). turns (a .lo + 1) n (better plain M (a .k)) (a .lo)) e)
+    (omega arith, λ M rest q sh. last (l .inv .4 M rest q sh) (omega arith) ∙ ap (λ (n : ℕ). turns (a .lo + 1) n (better plain M (a .k)) (a .lo)) e)
 
 pub find-pivot-spec : {M : Type 1} → statement M
 find-pivot-spec =
     tie.close
-    (tie.spec Inv-loop μ-loop mul-top add-top mul-top-2 shared-slice-read-top (search needs) (search needs) loop-holds
-    mul-v add-v mul-v-2 shared-slice-read-v (search needs) (search needs) (search needs) loop-again returns)
+    (tie.spec Inv-loop μ-loop mul-top add-top mul-top-2 shared-slice-read-top (omega arith) (omega arith) loop-holds
+    mul-v add-v mul-v-2 shared-slice-read-v (omega arith) (omega arith) (omega arith) loop-again returns)

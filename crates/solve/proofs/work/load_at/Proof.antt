@@ -6,7 +6,6 @@ use lib.ListN.{length, take, drop}
 use denote.Ref.{now}
 use Rattle.solve.proofs.Lists.{row-le}
 use Rattle.solve.proofs.Flat.{lent-row}
-use borrow.Author.Needs.{needs}
 use Rattle.solve.proofs.work.load_at.Statement.{statement}
 use Rattle.solve.proofs.work.load_at.Tie as tie
 
@@ -40,4 +39,4 @@ returns c =
 pub load-at-spec : {M : Type 1} → statement M
 load-at-spec =
     tie.close
-    (tie.spec mul-a add-e mul-load-row (search needs) (search needs) part-load-row-end (search needs) returns)
+    (tie.spec mul-a add-e mul-load-row (omega arith) (omega arith) part-load-row-end (omega arith) returns)

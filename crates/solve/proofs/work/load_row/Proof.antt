@@ -22,11 +22,11 @@ loop-again : tie.Need-loop-again Inv-loop μ-loop
 loop-again c =
     let t = c .before .before .before .args .t .now in
     let l = c .before .before .loop in
-    let inT : l .k < length t = search needs in
+    let inT : l .k < length t = omega arith in
     let inO : l .k < length (l .out) = omega (arith, c .before .before .before .pre) in
     let x = getD t (l .k) nan in (
       rw (add-one (l .k)) (take-suc-set (l .out) (l .k) x inO ∙ ap (λ (q : List Float). q ++ x ∷ []) (l .inv .0) ∙ sym (take-suc t (l .k) nan inT)),
-      search needs,
+      omega arith,
       search needs,
     )
 
@@ -34,10 +34,10 @@ returns : tie.Need-returns Inv-loop μ-loop
 returns c =
     let t = now (c .before .before .args .t) in
     let e : c .before .loop .k ≡ length t = omega arith in
-    (search needs, (rw e at (c .before .loop .inv .0)) ∙ take-length t)
+    (omega arith, (rw e at (c .before .loop .inv .0)) ∙ take-length t)
 
 pub load-row-spec : {M : Type 1} → statement M
 load-row-spec =
     tie.close
-    (tie.spec Inv-loop μ-loop (search needs) (search needs) (search needs) (search needs) (search needs)
-    (search needs) (search needs) loop-again returns)
+    (tie.spec Inv-loop μ-loop (search needs) (omega arith) (omega arith) (omega arith) (omega arith)
+    (omega arith) (omega arith) loop-again returns)

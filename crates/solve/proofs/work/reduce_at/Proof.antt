@@ -8,7 +8,6 @@ use Rattle.meaning.specs.Scalar.{plain}
 use Rattle.solve.specs.Elimination.{reduced}
 use Rattle.solve.proofs.Lists.{row-le}
 use Rattle.solve.proofs.Flat.{lent-row, back-row}
-use borrow.Author.Needs.{needs}
 use Rattle.solve.proofs.work.reduce_at.Statement.{statement}
 use Rattle.solve.proofs.work.reduce_at.Tie as tie
 
@@ -43,5 +42,5 @@ returns c =
 pub reduce-at-spec : {M : Type 1} → statement M
 reduce-at-spec =
     tie.close
-    (tie.spec mul-a add-e mul-reduce-row (search needs) (search needs) part-reduce-row-end (search needs)
-    (search needs) returns)
+    (tie.spec mul-a add-e mul-reduce-row (omega arith) (omega arith) part-reduce-row-end (omega arith)
+    (omega arith) returns)

@@ -1,8 +1,8 @@
 -- `solve::work::reduce_row` meets its contract: a case for the row that is skipped and one for the row that is reduced.
+use native.Mathlib.Omega.{arith}
 use mathlib.Core.Path.{_∙_}
 use Rattle.solve.specs.Elimination.{reduced}
 use Rattle.solve.specs.Verdicts.{reducedOk}
-use borrow.Author.Needs.{needs}
 use Rattle.solve.proofs.work.reduce_row.Statement.{statement}
 use Rattle.solve.proofs.work.reduce_row.Tie as tie
 
@@ -20,5 +20,5 @@ returns-2 c =
 pub reduce-row-spec : {M : Type 1} → statement M
 reduce-row-spec =
     tie.close
-    (tie.spec (search needs) (search needs) returns (search needs) (search needs) (search needs) (search needs)
-    (search needs) (search needs) returns-2)
+    (tie.spec (omega arith) (omega arith) returns (omega arith) (omega arith) (omega arith) (omega arith)
+    (omega arith) (omega arith) returns-2)

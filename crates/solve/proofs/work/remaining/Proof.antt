@@ -9,7 +9,6 @@ use Rattle.solve.specs.Substitution.{remains}
 use Rattle.solve.proofs.Lists.{row-le}
 use Rattle.solve.proofs.Flat.{read-cell}
 use Rattle.solve.proofs.Answers.{remains-none, remains-next}
-use borrow.Author.Needs.{needs}
 use Rattle.solve.proofs.work.remaining.Statement.{statement}
 use Rattle.solve.proofs.work.remaining.Tie as tie
 
@@ -42,7 +41,7 @@ loop-holds : tie.Need-loop-holds Inv-loop μ-loop
 loop-holds c =
     let a = c .before .args in
     let p = c .before .pre in
-    (search needs, λ M rest e sh. read-cell rest (a .w .now) (a .r) e sh (omega arith) (a .c) (p .1) nan ∙ sym (remains-none plain M (a .r) (a .c) (a .d)))
+    (omega arith, λ M rest e sh. read-cell rest (a .w .now) (a .r) e sh (omega arith) (a .c) (p .1) nan ∙ sym (remains-none plain M (a .r) (a .c) (a .d)))
 
 mul-acc-2 : tie.Need-mul-acc-2 Inv-loop μ-loop
 mul-acc-2 c = omega (arith, below c)
@@ -71,7 +70,7 @@ loop-again c =
     let p = c .before .before .before .before .before .pre in
     let l = c .before .before .before .loop in
     let t = c .before .before .loop-test .taken in (
-      search needs,
+      omega arith,
       λ M rest e sh.
           rw (
             read-cell rest (a .w .now) (a .r + 1 + l .i) e sh (omega arith) (a .c) (p .1) nan,
@@ -91,6 +90,6 @@ returns c =
 pub remaining-spec : {M : Type 1} → statement M
 remaining-spec =
     tie.close
-    (tie.spec Inv-loop μ-loop mul-base add-acc mul-acc shared-slice-read-acc loop-holds (search needs) (search needs)
-    mul-acc-2 add-acc-4 mul-acc-3 shared-slice-read-acc-2 (search needs) (search needs) add-acc-7 mul-acc-4
-    shared-slice-read-acc-3 (search needs) (search needs) loop-again returns)
+    (tie.spec Inv-loop μ-loop mul-base add-acc mul-acc shared-slice-read-acc loop-holds (omega arith) (omega arith)
+    mul-acc-2 add-acc-4 mul-acc-3 shared-slice-read-acc-2 (omega arith) (omega arith) add-acc-7 mul-acc-4
+    shared-slice-read-acc-3 (omega arith) (omega arith) loop-again returns)

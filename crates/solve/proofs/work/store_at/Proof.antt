@@ -4,7 +4,6 @@ use native.Mathlib.Omega.{arith}
 use denote.Ref.{now}
 use Rattle.solve.proofs.Lists.{row-le}
 use Rattle.solve.proofs.Flat.{back-row}
-use borrow.Author.Needs.{needs}
 use Rattle.solve.proofs.work.store_at.Statement.{statement}
 use Rattle.solve.proofs.work.store_at.Tie as tie
 
@@ -33,5 +32,5 @@ returns c =
 pub store-at-spec : {M : Type 1} → statement M
 store-at-spec =
     tie.close
-    (tie.spec mul-a add-e mul-store-row (search needs) (search needs) part-store-row-end (search needs) (search needs)
+    (tie.spec mul-a add-e mul-store-row (omega arith) (omega arith) part-store-row-end (omega arith) (omega arith)
     returns)

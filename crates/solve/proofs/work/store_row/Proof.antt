@@ -1,4 +1,5 @@
 -- `solve::work::store_row` meets its contract: the numbers below k are those of y.
+use native.Mathlib.Omega.{arith}
 use Prim.Native.Nat.{_≤_, _-_}
 use mathlib.Core.Path.{_≡_, refl, _∙_}
 use lib.ListN.{length}
@@ -19,15 +20,15 @@ loop-again : tie.Need-loop-again Inv-loop μ-loop
 loop-again c =
     let a = c .before .before .before .args in
     let l = c .before .before .loop in
-    (blend-next (a .y .now) (a .t .now) (l .t) (l .k) _ nan (l .inv .0) (search needs) (search needs) refl, search needs, search needs)
+    (blend-next (a .y .now) (a .t .now) (l .t) (l .k) _ nan (l .inv .0) (omega arith) (omega arith) refl, omega arith, search needs)
 
 returns : tie.Need-returns Inv-loop μ-loop
 returns c =
     let a = c .before .before .args in
-    c .before .loop .inv .0 ∙ blend-all (now (a .y)) (now (a .t)) (c .before .loop .k) (search needs) (search needs)
+    c .before .loop .inv .0 ∙ blend-all (now (a .y)) (now (a .t)) (c .before .loop .k) (omega arith) (omega arith)
 
 pub store-row-spec : {M : Type 1} → statement M
 store-row-spec =
     tie.close
-    (tie.spec Inv-loop μ-loop (search needs) (search needs) (search needs) (search needs) (search needs)
-    (search needs) (search needs) loop-again (search needs) returns)
+    (tie.spec Inv-loop μ-loop (search needs) (omega arith) (omega arith) (omega arith) (omega arith)
+    (omega arith) (omega arith) loop-again (omega arith) returns)

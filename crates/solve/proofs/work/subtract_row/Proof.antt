@@ -28,7 +28,7 @@ loop-holds : tie.Need-loop-holds Inv-loop μ-loop
 loop-holds c =
     let b = c .before .before in
     let a = b .args in
-    (sub-start plain _ _ _ (a .p .now) _ (b .pre .0), ap not (fine-start plain (a .n) (a .col) (a .f) (a .p .now) (a .t .now)), search needs, search needs, refl)
+    (sub-start plain _ _ _ (a .p .now) _ (b .pre .0), ap not (fine-start plain (a .n) (a .col) (a .f) (a .p .now) (a .t .now)), omega arith, omega arith, refl)
 
 loop-again : tie.Need-loop-again Inv-loop μ-loop
 loop-again c =
@@ -42,8 +42,8 @@ loop-again c =
     let fine = c .before .is-finite .ensures ∙ ap finite is ∙ fine-at plain (a .n) (a .col) (a .f) (a .p .now) (a .t .now) (l .k) (l .inv .2) in (
       sub-turn plain (a .n) (a .col) (a .f) (a .p .now) (a .t .now) (l .t) (l .k) _ (l .inv .0) room is,
       spoilt-next (fineAt plain (a .n) (a .col) (a .f) (a .p .now) (a .t .now)) (l .k) (l .inv .1) fine (c .either .ensures),
-      search needs,
-      search needs,
+      omega arith,
+      omega arith,
       search needs,
     )
 
@@ -55,13 +55,13 @@ returns c =
     let l = c .before .loop in
     let e : l .k ≡ length (a .t .now) = omega (arith, b .pre) in
     let p = fineAt plain (a .n) (a .col) (a .f) (a .p .now) (a .t .now) in (
-      l .inv .0 ∙ blend-all _ (a .t .now) (l .k) (sub-length plain (a .n) (a .col) (a .f) (a .p .now) (a .t .now)) (search needs),
+      l .inv .0 ∙ blend-all _ (a .t .now) (l .k) (sub-length plain (a .n) (a .col) (a .f) (a .p .now) (a .t .now)) (omega arith),
       ap not (l .inv .1) ∙ Bool·not-not (every (l .k) p) ∙ ap (λ (k : ℕ). every k p) e,
     )
 
 pub subtract-row-spec : {M : Type 1} → statement M
 subtract-row-spec =
     tie.close
-    (tie.spec Inv-loop μ-loop loop-holds (search needs) (search needs) (search needs) (search needs) (search needs)
-    (search needs) (search needs) (search needs) (search needs) (search needs) (search needs) loop-again
-    (search needs) returns)
+    (tie.spec Inv-loop μ-loop loop-holds (omega arith) (omega arith) (omega arith) (omega arith) (omega arith)
+    (omega arith) (omega arith) (omega arith) (omega arith) (omega arith) (omega arith) loop-again
+    (omega arith) returns)

@@ -8,7 +8,6 @@ use lib.Ieee.{Float}
 use Rattle.solve.specs.Rows.{flat}
 use Rattle.solve.specs.Elimination.{exchanged}
 use Rattle.solve.proofs.Flat.{shaped-set, swapped-same}
-use borrow.Author.Needs.{needs}
 use Rattle.solve.proofs.work.swap_rows.Statement.{statement}
 use Rattle.solve.proofs.work.swap_rows.Tie as tie
 
@@ -38,7 +37,7 @@ slice-aggregate-store-at : tie.Need-slice-aggregate-store-at
 slice-aggregate-store-at c = sym (row-j c)
 
 store-at-requires : tie.Need-store-at-requires
-store-at-requires c κs = (search needs, row-j c, search needs)
+store-at-requires c κs = (omega arith, row-j c, omega arith)
 
 slice-aggregate-store-at-2 : tie.Need-slice-aggregate-store-at-2
 slice-aggregate-store-at-2 c = sym (row-i c)
@@ -66,5 +65,5 @@ returns-2 c =
 pub swap-rows-spec : {M : Type 1} → statement M
 swap-rows-spec =
     tie.close
-    (tie.spec returns (search needs) (search needs) (search needs) slice-aggregate-store-at store-at-requires
-    (search needs) slice-aggregate-store-at-2 store-at-requires-2 (search needs) returns-2)
+    (tie.spec returns (omega arith) (omega arith) (omega arith) slice-aggregate-store-at store-at-requires
+    (omega arith) slice-aggregate-store-at-2 store-at-requires-2 (omega arith) returns-2)

@@ -7,7 +7,6 @@ use lib.Ieee.Scale.{finite}
 use Rattle.meaning.specs.Search.{every}
 use Rattle.meaning.proofs.Every.{every-none, spoilt-next}
 use Rattle.solve_partials.specs.Held.{numbered}
-use borrow.Author.Needs.{needs}
 use Rattle.solve_partials.proofs.cell.all_finite.Statement.{statement}
 use Rattle.solve_partials.proofs.cell.all_finite.Tie as tie
 
@@ -18,13 +17,13 @@ abbrev μ-loop : tie.MeasureT-loop
 μ-loop t n spoilt₀ end j₀ spoilt j = end - j
 
 loop-holds : tie.Need-loop-holds Inv-loop μ-loop
-loop-holds c = (ap not (every-none (λ j. finite (numbered (c .before .args .t .now) j))), search needs, refl)
+loop-holds c = (ap not (every-none (λ j. finite (numbered (c .before .args .t .now) j))), omega arith, refl)
 
 loop-again : tie.Need-loop-again Inv-loop μ-loop
 loop-again c =
     let l = c .before .before .before .before .loop in
     let t = c .before .before .before .before .before .before .args .t .now in
-    (spoilt-next (λ j. finite (numbered t j)) (l .j) (l .inv .0) (c .before .is-finite .ensures) (c .either .ensures), search needs, search needs)
+    (spoilt-next (λ j. finite (numbered t j)) (l .j) (l .inv .0) (c .before .is-finite .ensures) (c .either .ensures), omega arith, omega arith)
 
 returns : tie.Need-returns Inv-loop μ-loop
 returns c =
@@ -37,4 +36,4 @@ returns c =
 pub all-finite-spec : {M : Type 1} → statement M
 all-finite-spec =
     tie.close
-    (tie.spec Inv-loop μ-loop (search needs) loop-holds (search needs) (search needs) (search needs) (search needs) (search needs) (search needs) loop-again returns)
+    (tie.spec Inv-loop μ-loop (omega arith) loop-holds (omega arith) (omega arith) (omega arith) (omega arith) (omega arith) (omega arith) loop-again returns)

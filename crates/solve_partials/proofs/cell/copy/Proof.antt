@@ -20,15 +20,15 @@ abbrev μ-loop : tie.MeasureT-loop
 μ-loop t n out₀ end j₀ out j = end - j
 
 loop-holds : tie.Need-loop-holds Inv-loop μ-loop
-loop-holds c = (start (replicate 28 zero64), search needs, refl, refl)
+loop-holds c = (start (replicate 28 zero64), omega arith, refl, refl)
 
 loop-again : tie.Need-loop-again Inv-loop μ-loop
 loop-again c =
     let l = c .before .before .loop in
     let b = c .before .before .before in (
-      next (l .j) _ (l .inv .0) (search needs) (omega (arith, b .pre, c .before .loop-test .taken)) refl,
-      search needs,
-      search needs,
+      next (l .j) _ (l .inv .0) (omega arith) (omega (arith, b .pre, c .before .loop-test .taken)) refl,
+      omega arith,
+      omega arith,
       search needs,
     )
 
@@ -39,10 +39,10 @@ returns c =
     let e : l .j ≡ b .args .n + 1 = omega (arith, l .inv .1, c .loop-test .left) in (
       l .inv .3,
       λ j g h. l .inv .0 .past j (omega arith) ∙ getD-replicate 28 j zero64 nan h,
-      value-same (b .args .n) _ _ (λ j h. l .inv .0 .done j (search needs) (omega arith)),
+      value-same (b .args .n) _ _ (λ j h. l .inv .0 .done j (omega arith) (omega arith)),
     )
 
 pub copy-spec : {M : Type 1} → statement M
 copy-spec =
     tie.close
-    (tie.spec Inv-loop μ-loop (search needs) loop-holds (search needs) (search needs) (search needs) (search needs) (search needs) (search needs) loop-again returns)
+    (tie.spec Inv-loop μ-loop (omega arith) loop-holds (omega arith) (omega arith) (omega arith) (omega arith) (omega arith) (omega arith) loop-again returns)

@@ -18,12 +18,12 @@ abbrev μ-loop : tie.MeasureT-loop
 μ-loop t₀ lo hi j₀ t j = hi - j
 
 loop-holds : tie.Need-loop-holds Inv-loop μ-loop
-loop-holds c = (start (c .args .t .now), search needs, search needs, refl)
+loop-holds c = (start (c .args .t .now), omega arith, omega arith, refl)
 
 loop-again : tie.Need-loop-again Inv-loop μ-loop
 loop-again c =
     let l = c .before .loop in
-    (next (l .j) zero64 (l .inv .0) (l .inv .1) (omega (arith, c .before .before .pre, c .loop-test .taken)) refl, search needs, search needs, search needs)
+    (next (l .j) zero64 (l .inv .0) (l .inv .1) (omega (arith, c .before .before .pre, c .loop-test .taken)) refl, omega arith, omega arith, search needs)
 
 returns : tie.Need-returns Inv-loop μ-loop
 returns c = over (c .before .loop .j) (c .before .before .args .hi) (c .before .loop .inv .0) (omega arith)
@@ -31,4 +31,4 @@ returns c = over (c .before .loop .j) (c .before .before .args .hi) (c .before .
 pub fill-spec : {M : Type 1} → statement M
 fill-spec =
     tie.close
-    (tie.spec Inv-loop μ-loop loop-holds (search needs) (search needs) (search needs) (search needs) loop-again (search needs) returns)
+    (tie.spec Inv-loop μ-loop loop-holds (omega arith) (omega arith) (omega arith) (omega arith) loop-again (omega arith) returns)

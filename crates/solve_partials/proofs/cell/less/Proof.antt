@@ -4,7 +4,6 @@ use native.Mathlib.Omega.{arith}
 use Rattle.partials.specs.Dual.{fineDv}
 use Rattle.solve_partials.specs.Held.{numbered}
 use Rattle.solve_partials.proofs.Products.{fine-value}
-use borrow.Author.Needs.{needs}
 use Rattle.solve_partials.proofs.cell.less.Statement.{statement}
 use Rattle.solve_partials.proofs.cell.less.Tie as tie
 
@@ -21,4 +20,4 @@ returns c =
 pub less-spec : {M : Type 1} → statement M
 less-spec =
     tie.close
-    (tie.spec subtract-requires (search needs) (search needs) returns)
+    (tie.spec subtract-requires (omega arith) (omega arith) returns)

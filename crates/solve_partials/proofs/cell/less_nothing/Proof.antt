@@ -19,15 +19,15 @@ abbrev μ-loop : tie.MeasureT-loop
 μ-loop t₀ lo hi j₀ t j = hi - j
 
 loop-holds : tie.Need-loop-holds Inv-loop μ-loop
-loop-holds c = (start (c .args .t .now), search needs, search needs, refl)
+loop-holds c = (start (c .args .t .now), omega arith, omega arith, refl)
 
 loop-again : tie.Need-loop-again Inv-loop μ-loop
 loop-again c =
     let l = c .before .before .loop in (
       next (l .j) _ (l .inv .0) (l .inv .1) (omega (arith, c .before .before .before .pre, c .before .loop-test .taken))
           (ap (λ (x : Float). sub binary64 x zero64) (l .inv .0 .past (l .j) (omega arith))),
-      search needs,
-      search needs,
+      omega arith,
+      omega arith,
       search needs,
     )
 
@@ -37,4 +37,4 @@ returns c = over (c .before .loop .j) (c .before .before .args .hi) (c .before .
 pub less-nothing-spec : {M : Type 1} → statement M
 less-nothing-spec =
     tie.close
-    (tie.spec Inv-loop μ-loop loop-holds (search needs) (search needs) (search needs) (search needs) (search needs) (search needs) loop-again (search needs) returns)
+    (tie.spec Inv-loop μ-loop loop-holds (omega arith) (omega arith) (omega arith) (omega arith) (omega arith) (omega arith) loop-again (omega arith) returns)

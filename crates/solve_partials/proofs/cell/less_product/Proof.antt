@@ -19,7 +19,7 @@ abbrev μ-loop : tie.MeasureT-loop
 μ-loop t₀ a b end x y j₀ t j = end - j
 
 loop-holds : tie.Need-loop-holds Inv-loop μ-loop
-loop-holds c = (start (c .before .before .args .t .now), refl, refl, search needs, search needs, refl)
+loop-holds c = (start (c .before .before .args .t .now), refl, refl, omega arith, omega arith, refl)
 
 loop-again : tie.Need-loop-again Inv-loop μ-loop
 loop-again c =
@@ -29,8 +29,8 @@ loop-again c =
           (rw (l .inv .0 .past (l .j) (omega arith))),
       refl,
       refl,
-      search needs,
-      search needs,
+      omega arith,
+      omega arith,
       search needs,
     )
 
@@ -42,5 +42,5 @@ returns c =
 pub less-product-spec : {M : Type 1} → statement M
 less-product-spec =
     tie.close
-    (tie.spec Inv-loop μ-loop (search needs) (search needs) loop-holds (search needs) (search needs) (search needs) (search needs) (search needs) (search needs)
-    (search needs) (search needs) (search needs) (search needs) loop-again (search needs) returns)
+    (tie.spec Inv-loop μ-loop (omega arith) (omega arith) loop-holds (omega arith) (omega arith) (omega arith) (omega arith) (omega arith) (omega arith)
+    (omega arith) (omega arith) (omega arith) (omega arith) loop-again (omega arith) returns)

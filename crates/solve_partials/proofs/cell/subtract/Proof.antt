@@ -4,7 +4,6 @@ use Prim.Native.Nat.{max}
 use native.Mathlib.Omega.{arith}
 use lib.ListN.{length-set}
 use Rattle.solve_partials.proofs.Products.{subtracted-value}
-use borrow.Author.Needs.{needs}
 use Rattle.solve_partials.proofs.cell.subtract.Statement.{statement}
 use Rattle.solve_partials.proofs.cell.subtract.Tie as tie
 
@@ -40,5 +39,5 @@ returns c =
 pub subtract-spec : {M : Type 1} → statement M
 subtract-spec =
     tie.close
-    (tie.spec (search needs) (search needs) (search needs) (search needs) (search needs) (search needs) (search needs) (search needs)
-    (search needs) (search needs) (search needs) (search needs) (search needs) (search needs) same-length returns)
+    (tie.spec (omega arith) (omega arith) (omega arith) (omega arith) (omega arith) (omega arith) (omega arith) (omega arith)
+    (omega arith) (omega arith) (omega arith) (omega arith) (omega arith) (omega arith) same-length returns)

@@ -11,7 +11,6 @@ use Rattle.solve.specs.Verdicts.{columnOk}
 use Rattle.solve.proofs.Pivots.{best-is}
 use Rattle.solve.proofs.Steps.{pivoted-shaped}
 use Rattle.solve_partials.proofs.Cells.{room-kept}
-use borrow.Author.Needs.{needs}
 use Rattle.solve_partials.proofs.dense.eliminate_column.Statement.{statement}
 use Rattle.solve_partials.proofs.dense.eliminate_column.Tie as tie
 
@@ -51,4 +50,4 @@ returns c =
 pub eliminate-column-spec : {M : Type 1} → statement M
 eliminate-column-spec =
     tie.close
-    (tie.spec (search needs) (search needs) find-pivot-requires swap-rows-requires reduce-rows-requires (search needs) (search needs) returns)
+    (tie.spec (omega arith) (omega arith) find-pivot-requires swap-rows-requires reduce-rows-requires (omega arith) (omega arith) returns)

@@ -19,7 +19,6 @@ use Rattle.solve.proofs.Steps.{reduced-length, rows-length, rows-start, rows-re
 use Rattle.solve_partials.specs.Held.{held}
 use Rattle.solve_partials.proofs.Cells.{room-kept}
 use Rattle.solve_partials.proofs.Turns.{pivot-stays}
-use borrow.Author.Needs.{needs}
 use Rattle.solve_partials.proofs.dense.reduce_rows.Statement.{statement}
 use Rattle.solve_partials.proofs.dense.reduce_rows.Tie as tie
 
@@ -52,8 +51,8 @@ loop-holds c =
             verdict = rows-fine-start dual (a .m) (a .col) p (a .m) M;
             shape = rw same at sh;
           },
-      search needs,
-      search needs,
+      omega arith,
+      omega arith,
       refl,
       refl,
     )
@@ -87,8 +86,8 @@ loop-again c =
             shape = rw turn at
                 (shaped-set (l .r) (reduced dual (a .m) (a .col) p x) (old .shape) h (reduced-length dual (a .m) (a .col) p x ∙ old .shape .each (l .r) h));
           },
-      search needs,
-      search needs,
+      omega arith,
+      omega arith,
       omega (arith, call .kept, l .inv .3),
       omega (arith, call .kept, l .inv .4),
     )
@@ -110,4 +109,4 @@ returns c =
 pub reduce-rows-spec : {M : Type 1} → statement M
 reduce-rows-spec =
     tie.close
-    (tie.spec Inv-loop μ-loop (search needs) loop-holds reduce-row-requires (search needs) (search needs) (search needs) loop-again (search needs) (search needs) returns)
+    (tie.spec Inv-loop μ-loop (omega arith) loop-holds reduce-row-requires (omega arith) (omega arith) (omega arith) loop-again (omega arith) (omega arith) returns)

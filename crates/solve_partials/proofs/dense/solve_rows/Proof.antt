@@ -9,7 +9,6 @@ use Rattle.solve.specs.Substitution.{solved}
 use Rattle.solve.proofs.Steps.{eliminated-shaped}
 use Rattle.solve.proofs.Stored.{solved-along}
 use Rattle.solve_partials.proofs.Cells.{room-kept}
-use borrow.Author.Needs.{needs}
 use Rattle.solve_partials.proofs.dense.solve_rows.Statement.{statement}
 use Rattle.solve_partials.proofs.dense.solve_rows.Tie as tie
 
@@ -34,4 +33,4 @@ returns c =
 pub solve-rows-spec : {M : Type 1} → statement M
 solve-rows-spec =
     tie.close
-    (tie.spec (search needs) eliminate-requires substitute-requires (search needs) (search needs) (search needs) returns)
+    (tie.spec (omega arith) eliminate-requires substitute-requires (omega arith) (omega arith) (omega arith) returns)

@@ -10,7 +10,6 @@ use Rattle.solve.proofs.Passes.{Pass, begun, further, over}
 use Rattle.solve.proofs.Answers.{answered-shaped}
 use Rattle.solve_partials.specs.Held.{held}
 use Rattle.solve_partials.proofs.Cells.{held-long, room-kept}
-use borrow.Author.Needs.{needs}
 use Rattle.solve_partials.proofs.dense.substitute.Statement.{statement}
 use Rattle.solve_partials.proofs.dense.substitute.Tie as tie
 
@@ -44,9 +43,9 @@ loop-again c =
 
 returns : tie.Need-returns Inv-loop μ-loop
 unfolding backed backedOk
-returns c = over (c .before .loop .inv .0) (search needs)
+returns c = over (c .before .loop .inv .0) (omega arith)
 
 pub substitute-spec : {M : Type 1} → statement M
 substitute-spec =
     tie.close
-    (tie.spec Inv-loop μ-loop loop-holds (search needs) (search needs) answer-row-requires (search needs) (search needs) (search needs) loop-again (search needs) (search needs) returns)
+    (tie.spec Inv-loop μ-loop loop-holds (omega arith) (omega arith) answer-row-requires (omega arith) (omega arith) (omega arith) loop-again (omega arith) (omega arith) returns)

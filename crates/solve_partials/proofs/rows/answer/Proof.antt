@@ -9,7 +9,6 @@ use Rattle.solve.specs.Substitution.{answer}
 use Rattle.solve.proofs.Flat.{read-cell}
 use Rattle.solve_partials.specs.Held.{held}
 use Rattle.solve_partials.proofs.Turns.{inside}
-use borrow.Author.Needs.{needs}
 use Rattle.solve_partials.proofs.rows.answer.Statement.{statement}
 use Rattle.solve_partials.proofs.rows.answer.Tie as tie
 
@@ -44,4 +43,4 @@ returns c =
 pub answer-spec : {M : Type 1} → statement M
 answer-spec =
     tie.close
-    (tie.spec (search needs) mul-divided add-divided divided-requires returns)
+    (tie.spec (omega arith) mul-divided add-divided divided-requires returns)

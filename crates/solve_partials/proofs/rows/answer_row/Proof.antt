@@ -11,7 +11,6 @@ use Rattle.solve.specs.Verdicts.{answeredOk}
 use Rattle.solve.proofs.Answers.{write-two}
 use Rattle.solve_partials.specs.Held.{held}
 use Rattle.solve_partials.proofs.Turns.{inside}
-use borrow.Author.Needs.{needs}
 use Rattle.solve_partials.proofs.rows.answer_row.Statement.{statement}
 use Rattle.solve_partials.proofs.rows.answer_row.Tie as tie
 
@@ -69,4 +68,4 @@ returns c =
 pub answer-row-spec : {M : Type 1} → statement M
 answer-row-spec =
     tie.close
-    (tie.spec answer-requires add-answer answer-requires-2 mul-put-two add-put-two mul-put-two-2 add-put-two-2 add-put-two-3 put-two-requires (search needs) (search needs) (search needs) (search needs) (search needs) returns)
+    (tie.spec answer-requires add-answer answer-requires-2 mul-put-two add-put-two mul-put-two-2 add-put-two-2 add-put-two-3 put-two-requires (omega arith) (omega arith) (omega arith) (omega arith) (omega arith) returns)

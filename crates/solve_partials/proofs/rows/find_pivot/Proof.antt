@@ -16,7 +16,6 @@ use Rattle.solve.specs.Best.{better, bestAmong}
 use Rattle.solve_partials.specs.Held.{held}
 use Rattle.solve_partials.proofs.Turns.{inside}
 use Rattle.solve_partials.proofs.Places.{cell-end, read-value}
-use borrow.Author.Needs.{needs}
 use Rattle.solve_partials.proofs.rows.find_pivot.Statement.{statement}
 use Rattle.solve_partials.proofs.rows.find_pivot.Tie as tie
 
@@ -48,7 +47,7 @@ value-at-requires c κs =
     omega (arith, cell-end (a .c) (a .lo) (a .k) (a .m) (a .s) (omega (arith, b .pre)) (b .pre .1), b .pre)
 
 loop-holds : tie.Need-loop-holds Inv-loop μ-loop
-loop-holds c = (search needs, search needs, search needs, c .value-at .ensures, λ ns l M rest e sh. first (omega arith))
+loop-holds c = (omega arith, omega arith, omega arith, c .value-at .ensures, λ ns l M rest e sh. first (omega arith))
 
 mul-value-at-2 : tie.Need-mul-value-at-2 Inv-loop μ-loop
 mul-value-at-2 c = omega (arith, below c, c .before .before .before .before .pre)
@@ -99,10 +98,10 @@ returns c =
     let a = c .before .before .before .before .args in
     let l = c .before .loop in
     let e : a .lo + 1 + a .n - (a .lo + 1) ≡ a .n = omega arith in
-    (search needs, λ ns n M rest q sh. last (l .inv .4 ns n M rest q sh) (search needs) ∙ ap (λ (n : ℕ). turns (a .lo + 1) n (better dual M (a .k)) (a .lo)) e)
+    (omega arith, λ ns n M rest q sh. last (l .inv .4 ns n M rest q sh) (omega arith) ∙ ap (λ (n : ℕ). turns (a .lo + 1) n (better dual M (a .k)) (a .lo)) e)
 
 pub find-pivot-spec : {M : Type 1} → statement M
 find-pivot-spec =
     tie.close
-    (tie.spec Inv-loop μ-loop mul-value-at add-value-at value-at-requires (search needs) (search needs) loop-holds mul-value-at-2 add-value-at-2
-    value-at-requires-2 (search needs) (search needs) (search needs) loop-again returns)
+    (tie.spec Inv-loop μ-loop mul-value-at add-value-at value-at-requires (omega arith) (omega arith) loop-holds mul-value-at-2 add-value-at-2
+    value-at-requires-2 (omega arith) (omega arith) (omega arith) loop-again returns)

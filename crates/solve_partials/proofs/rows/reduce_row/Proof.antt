@@ -20,7 +20,6 @@ use Rattle.solve_partials.specs.Held.{held, valued, Clean}
 use Rattle.solve_partials.proofs.Cells.{ends, doubles-back, doubles-clean}
 use Rattle.solve_partials.proofs.Turns.{inside, skipped, skipped-ok, taken-off, taken-off-ok}
 use Rattle.solve_partials.proofs.Places.{read-value}
-use borrow.Author.Needs.{needs}
 use Rattle.solve_partials.proofs.rows.reduce_row.Statement.{statement}
 use Rattle.solve_partials.proofs.rows.reduce_row.Tie as tie
 
@@ -130,4 +129,4 @@ returns-2 c =
 pub reduce-row-spec : {M : Type 1} → statement M
 reduce-row-spec =
     tie.close
-    (tie.spec mul-value-at add-value-at value-at-requires (search needs) returns mul-quotient add-quotient mul-quotient-2 add-quotient-2 quotient-requires (search needs) subtract-row-requires (search needs) (search needs) (search needs) (search needs) returns-2)
+    (tie.spec mul-value-at add-value-at value-at-requires (omega arith) returns mul-quotient add-quotient mul-quotient-2 add-quotient-2 quotient-requires (omega arith) subtract-row-requires (omega arith) (omega arith) (omega arith) (omega arith) returns-2)

@@ -14,7 +14,6 @@ use Rattle.solve.proofs.Answers.{remains-none, remains-next}
 use Rattle.solve_partials.specs.Held.{held, numbered, valued}
 use Rattle.solve_partials.proofs.Cells.{value-normal}
 use Rattle.solve_partials.proofs.Turns.{inside}
-use borrow.Author.Needs.{needs}
 use Rattle.solve_partials.proofs.rows.remaining.Statement.{statement}
 use Rattle.solve_partials.proofs.rows.remaining.Tie as tie
 
@@ -59,7 +58,7 @@ loop-holds c =
     let l = c .before .load in (
       omega (arith, c .count .ensures),
       l .ensures .0,
-      search needs,
+      omega arith,
       λ M rest e sh.
           ap (valued (l .result)) (c .count .ensures) ∙ l .ensures .2
           ∙ read-cell rest (held (a .c) (now (a .w)) (now (a .ns))) (a .r) e sh (omega (arith, b .pre .2)) (a .b) (b .pre .3) (dual .off)
@@ -105,7 +104,7 @@ loop-again c =
     let H = held (a .c) (now (a .w)) (now (a .ns)) in (
       call .ensures .0,
       call .kept .0 ∙ l .inv .1,
-      search needs,
+      omega arith,
       λ M rest e sh.
           let x = read-cell rest H (a .r + 1 + l .i) e sh (omega (arith, b .pre .2, t)) (a .b) (b .pre .3) (dual .off) in
           let y = read-cell rest H (a .r) e sh (omega (arith, b .pre .2)) (a .r + 1 + l .i) (omega (arith, b .pre .2, b .pre .4, t)) (dual .off) in
@@ -127,5 +126,5 @@ returns c =
 pub remaining-spec : {M : Type 1} → statement M
 remaining-spec =
     tie.close
-    (tie.spec Inv-loop μ-loop mul-base add-load load-requires add-count (search needs) loop-holds slice-aggregate-less-term add-less-term add-less-term-2
-    mul-less-term add-less-term-3 add-less-term-4 add-less-term-5 add-less-term-6 less-term-requires (search needs) (search needs) loop-again (search needs) returns)
+    (tie.spec Inv-loop μ-loop mul-base add-load load-requires add-count (omega arith) loop-holds slice-aggregate-less-term add-less-term add-less-term-2
+    mul-less-term add-less-term-3 add-less-term-4 add-less-term-5 add-less-term-6 less-term-requires (omega arith) (omega arith) loop-again (omega arith) returns)

@@ -16,7 +16,6 @@ use Rattle.solve.proofs.Steps.{fine-start, fine-at}
 use Rattle.solve_partials.specs.Held.{held, valued}
 use Rattle.solve_partials.proofs.Cells.{room-kept}
 use Rattle.solve_partials.proofs.Turns.{inside, lessened, lessened-start, lessened-end, lessened-value, lessened-next}
-use borrow.Author.Needs.{needs}
 use Rattle.solve_partials.proofs.rows.subtract_row.Statement.{statement}
 use Rattle.solve_partials.proofs.rows.subtract_row.Tie as tie
 
@@ -43,7 +42,7 @@ loop-holds c =
         rows = e ∙ ap (λ (N : List (List Dv)). flat N rest) (lessened-start dual (a .m) (a .s) (a .col) (a .r) F M b h sh (p .4));
         verdict = fine-start dual (a .m) (a .col) F (getD M (a .col) []) (getD M (a .r) []);
       },
-      search needs,
+      omega arith,
       p .4,
       refl,
       refl,
@@ -97,8 +96,8 @@ loop-again c =
             verdict = every-next (fineAt dual (a .m) (a .col) F (getD M (a .col) []) (getD M (a .r) [])) (l .k) (old .verdict)
                 (call .ensures .1 ∙ ap fineDv value ∙ fine-at dual (a .m) (a .col) F (getD M (a .col) []) (getD M (a .r) []) (l .k) (l .inv .1)) (c .both .ensures);
           },
-      search needs,
-      search needs,
+      omega arith,
+      omega arith,
       omega (arith, call .kept, l .inv .3),
       omega (arith, call .kept, l .inv .4),
     )
@@ -122,5 +121,5 @@ returns c =
 pub subtract-row-spec : {M : Type 1} → statement M
 subtract-row-spec =
     tie.close
-    (tie.spec Inv-loop μ-loop loop-holds mul-reduce-cell add-reduce-cell mul-reduce-cell-2 add-reduce-cell-2 reduce-cell-requires (search needs) (search needs)
-    (search needs) loop-again (search needs) (search needs) returns)
+    (tie.spec Inv-loop μ-loop loop-holds mul-reduce-cell add-reduce-cell mul-reduce-cell-2 add-reduce-cell-2 reduce-cell-requires (omega arith) (omega arith)
+    (omega arith) loop-again (omega arith) (omega arith) returns)

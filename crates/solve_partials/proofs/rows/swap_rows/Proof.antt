@@ -11,7 +11,6 @@ use Rattle.solve.proofs.Flat.{swapped-same}
 use Rattle.solve_partials.specs.Held.{held}
 use Rattle.solve_partials.proofs.Cells.{room-kept}
 use Rattle.solve_partials.proofs.Turns.{inside, partly, partly-none, partly-next, partly-all}
-use borrow.Author.Needs.{needs}
 use Rattle.solve_partials.proofs.rows.swap_rows.Statement.{statement}
 use Rattle.solve_partials.proofs.rows.swap_rows.Tie as tie
 
@@ -33,7 +32,7 @@ loop-holds : tie.Need-loop-holds Inv-loop μ-loop
 loop-holds c =
     let a = c .before .before .before .args in (
       λ h g q M rest e sh. e ∙ ap (λ (N : List (List Dv)). flat N rest) (sym (partly-none (a .m) (a .s) (a .i) (a .j) M h g q sh)),
-      search needs,
+      omega arith,
       refl,
       refl,
     )
@@ -81,7 +80,7 @@ loop-again c =
     let a = t .before .before .before .before .before .args in (
       λ h g q M rest e sh.
           partly-next (a .m) (a .s) (a .i) (a .j) M h g q sh rest (held (a .c) (l .w) (l .ns)) _ (l .k) (dual .off) (t .loop-test .taken) (l .inv .0 h g q M rest e sh) (call .ensures),
-      search needs,
+      omega arith,
       omega (arith, call .kept, l .inv .2),
       omega (arith, call .kept, l .inv .3),
     )
@@ -101,5 +100,5 @@ returns-2 c =
 pub swap-rows-spec : {M : Type 1} → statement M
 swap-rows-spec =
     tie.close
-    (tie.spec Inv-loop μ-loop returns loop-holds mul-swap-cells add-swap-cells mul-swap-cells-2 add-swap-cells-2 swap-cells-requires (search needs)
-    (search needs) loop-again (search needs) (search needs) returns-2)
+    (tie.spec Inv-loop μ-loop returns loop-holds mul-swap-cells add-swap-cells mul-swap-cells-2 add-swap-cells-2 swap-cells-requires (omega arith)
+    (omega arith) loop-again (omega arith) (omega arith) returns-2)

@@ -1,10 +1,10 @@
 -- `solve_partials::work::divided` meets its contract: what each call gives, one in the other.
+use native.Mathlib.Omega.{arith}
 use mathlib.Core.Path.{sym, subst, _∙_}
 use Rattle.meaning.specs.Scalar.{one64}
 use Rattle.partials.specs.Dual.{mulDv, divDv}
 use Rattle.cells.specs.Normal.{Normal}
 use Rattle.solve_partials.proofs.Cells.{mul-normal, div-normal, cst-normal}
-use borrow.Author.Needs.{needs}
 use Rattle.solve_partials.proofs.work.divided.Statement.{statement}
 use Rattle.solve_partials.proofs.work.divided.Tie as tie
 
@@ -25,4 +25,4 @@ returns c =
 pub divided-spec : {M : Type 1} → statement M
 divided-spec =
     tie.close
-    (tie.spec (search needs) (search needs) (search needs) (search needs) returns)
+    (tie.spec (omega arith) (omega arith) (omega arith) (omega arith) returns)

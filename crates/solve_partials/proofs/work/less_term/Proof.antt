@@ -3,7 +3,6 @@ use native.Mathlib.Omega.{arith}
 use mathlib.Core.Path.{ap, _∙_}
 use Rattle.partials.specs.Dual.{subDv, mulDv}
 use Rattle.solve_partials.specs.Held.{valued}
-use borrow.Author.Needs.{needs}
 use Rattle.solve_partials.proofs.work.less_term.Statement.{statement}
 use Rattle.solve_partials.proofs.work.less_term.Tie as tie
 
@@ -38,4 +37,4 @@ returns c =
 pub less-term-spec : {M : Type 1} → statement M
 less-term-spec =
     tie.close
-    (tie.spec (search needs) (search needs) (search needs) (search needs) subtract-requires (search needs) returns)
+    (tie.spec (omega arith) (omega arith) (omega arith) (omega arith) subtract-requires (omega arith) returns)

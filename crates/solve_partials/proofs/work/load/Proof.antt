@@ -9,7 +9,6 @@ use Rattle.cells.specs.Cell.{cellAt}
 use Rattle.cells.proofs.Values.{value-same}
 use Rattle.cells.proofs.Cells.{lent-at}
 use Rattle.solve_partials.proofs.Cells.{ends, held-at}
-use borrow.Author.Needs.{needs}
 use Rattle.solve_partials.proofs.work.load.Statement.{statement}
 use Rattle.solve_partials.proofs.work.load.Tie as tie
 
@@ -51,4 +50,4 @@ returns c =
 pub load-spec : {M : Type 1} → statement M
 load-spec =
     tie.close
-    (tie.spec (search needs) (search needs) mul-a (search needs) add-e-2 mul-copy (search needs) (search needs) part-copy-end copy-requires returns)
+    (tie.spec (omega arith) (omega arith) mul-a (omega arith) add-e-2 mul-copy (omega arith) (omega arith) part-copy-end copy-requires returns)

@@ -1,6 +1,6 @@
 -- `solve_partials::work::put_two` meets its contract: one cell after the other.
+use native.Mathlib.Omega.{arith}
 use Rattle.solve_partials.proofs.Cells.{two-put}
-use borrow.Author.Needs.{needs}
 use Rattle.solve_partials.proofs.work.put_two.Statement.{statement}
 use Rattle.solve_partials.proofs.work.put_two.Tie as tie
 
@@ -15,4 +15,4 @@ returns c =
 pub put-two-spec : {M : Type 1} → statement M
 put-two-spec =
     tie.close
-    (tie.spec (search needs) (search needs) (search needs) (search needs) returns)
+    (tie.spec (omega arith) (omega arith) (omega arith) (omega arith) returns)

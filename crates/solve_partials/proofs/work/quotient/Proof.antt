@@ -1,10 +1,10 @@
 -- `solve_partials::work::quotient` meets its contract: both cells are there.
+use native.Mathlib.Omega.{arith}
 use mathlib.Core.Path.{sym, subst, _∙_}
 use denote.Ref.{now}
 use Rattle.partials.specs.Dual.{divDv}
 use Rattle.cells.specs.Normal.{Normal}
 use Rattle.solve_partials.proofs.Cells.{held-read, over-normal}
-use borrow.Author.Needs.{needs}
 use Rattle.solve_partials.proofs.work.quotient.Statement.{statement}
 use Rattle.solve_partials.proofs.work.quotient.Tie as tie
 
@@ -21,4 +21,4 @@ returns c =
 pub quotient-spec : {M : Type 1} → statement M
 quotient-spec =
     tie.close
-    (tie.spec (search needs) (search needs) (search needs) returns)
+    (tie.spec (omega arith) (omega arith) (omega arith) returns)

@@ -7,7 +7,6 @@ use Rattle.partials.specs.declared.Dv.{Dv}
 use Rattle.partials.specs.Dual.{subDv, mulDv, fineDv}
 use Rattle.solve_partials.specs.Held.{held, valued, Clean, at}
 use Rattle.solve_partials.proofs.Cells.{in-matrix, in-sides}
-use borrow.Author.Needs.{needs}
 use Rattle.solve_partials.proofs.work.reduce_cell.Statement.{statement}
 use Rattle.solve_partials.proofs.work.reduce_cell.Tie as tie
 
@@ -60,4 +59,4 @@ returns-2 c =
 pub reduce-cell-spec : {M : Type 1} → statement M
 reduce-cell-spec =
     tie.close
-    (tie.spec (search needs) (search needs) subtract-at-requires (search needs) (search needs) returns subtract-at-requires-2 (search needs) (search needs) returns-2)
+    (tie.spec (omega arith) (omega arith) subtract-at-requires (omega arith) (omega arith) returns subtract-at-requires-2 (omega arith) (omega arith) returns-2)

@@ -56,4 +56,4 @@ returns c =
 pub subtract-at-spec : {M : Type 1} → statement M
 subtract-at-spec =
     tie.close
-    (tie.spec (search needs) (search needs) mul-i (search needs) add-e-2 mul-less (search needs) (search needs) part-less-end less-requires (search needs) (search needs) (search needs) (search needs) returns)
+    (tie.spec (omega arith) (omega arith) mul-i (omega arith) add-e-2 mul-less (omega arith) (omega arith) part-less-end less-requires (omega arith) (omega arith) (omega arith) (search needs) returns)

@@ -1,6 +1,6 @@
 -- `solve_partials::work::swap_cells` meets its contract: each of the two is put in the place of the other.
+use native.Mathlib.Omega.{arith}
 use Rattle.solve_partials.proofs.Cells.{swapped-cells}
-use borrow.Author.Needs.{needs}
 use Rattle.solve_partials.proofs.work.swap_cells.Statement.{statement}
 use Rattle.solve_partials.proofs.work.swap_cells.Tie as tie
 
@@ -14,4 +14,4 @@ returns c =
 pub swap-cells-spec : {M : Type 1} → statement M
 swap-cells-spec =
     tie.close
-    (tie.spec (search needs) (search needs) (search needs) (search needs) (search needs) (search needs) returns)
+    (tie.spec (omega arith) (omega arith) (omega arith) (omega arith) (omega arith) (omega arith) returns)

@@ -1,9 +1,9 @@
 -- `solve_partials::work::value_in` meets its contract: the cell is there.
+use native.Mathlib.Omega.{arith}
 use mathlib.Core.Path.{sym, subst, _∙_}
 use denote.Ref.{now}
 use Rattle.cells.specs.Normal.{Normal}
 use Rattle.solve_partials.proofs.Cells.{held-read, at-normal}
-use borrow.Author.Needs.{needs}
 use Rattle.solve_partials.proofs.work.value_in.Statement.{statement}
 use Rattle.solve_partials.proofs.work.value_in.Tie as tie
 
@@ -17,4 +17,4 @@ returns c =
 pub value-in-spec : {M : Type 1} → statement M
 value-in-spec =
     tie.close
-    (tie.spec (search needs) returns)
+    (tie.spec (omega arith) returns)

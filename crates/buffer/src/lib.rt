@@ -1,8 +1,9 @@
-// Numbers into a lent slice.
+// Numbers into a lent slice, and a lent slice cleared.
 ghost use mathlib.Core.Path.{_≡_};
 ghost use Prim.Native.Nat.{_+_, _≤_};
-ghost use lib.ListN.{length};
+ghost use lib.ListN.{length, replicate};
 ghost use lib.Seq.{paste};
+ghost use Rattle.meaning.specs.Scalar.{zero64};
 ghost use Rattle.buffer.specs.Pasted.{pasted};
 
 fn copy(src: &[f64], n: usize, out: &mut [f64], at: usize)
@@ -28,4 +29,24 @@ pub fn put(src: &[f64], n: usize, out: &mut [f64], at: usize)
         return;
     }
     copy(src, n, out, at);
+}
+
+// Every number +0.0.
+pub fn clear(t: &mut [f64])
+    ensures { λ _. ⌜ now (t .exit) ≡ replicate (length (now (t .entry))) zero64 ⌝ }
+{
+    let end = t.len();
+    for k in 0..end {
+        t[k] = 0.0;
+    }
+}
+
+// Every byte 0.
+pub fn clear_bytes(t: &mut [u8])
+    ensures { λ _. ⌜ now (t .exit) ≡ replicate (length (now (t .entry))) 0 ⌝ }
+{
+    let end = t.len();
+    for k in 0..end {
+        t[k] = 0;
+    }
 }

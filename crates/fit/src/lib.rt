@@ -2,9 +2,9 @@
 ghost use mathlib.Core.Path.{_≡_};
 ghost use mathlib.Core.Bool.{_||_};
 ghost use Prim.Native.Nat.{_+_, _-_, _*_, _≤_, _<_};
-ghost use lib.ListN.{length, replicate};
+ghost use lib.ListN.{length};
 ghost use lib.Ieee.{nan};
-ghost use Rattle.meaning.specs.Scalar.{plain, zero64};
+ghost use Rattle.meaning.specs.Scalar.{plain};
 ghost use Rattle.meaning.specs.Table.{at1};
 ghost use Rattle.meaning.specs.Search.{listed};
 ghost use Rattle.meaning.proofs.Filling.{Filled};
@@ -128,16 +128,6 @@ fn knots_by(p: &[f64; 64], n: usize) -> [f64; 70]
 
 // ---- the system
 
-// Each number of a row +0.0.
-fn clear_row(t: &mut [f64])
-    ensures { λ _. ⌜ now (t .exit) ≡ replicate (length (now (t .entry))) zero64 ⌝ }
-{
-    let end = t.len();
-    for k in 0..end {
-        t[k] = 0.0;
-    }
-}
-
 // Four numbers in a row, from column at on.
 fn put_four(t: &mut [f64], four: [f64; 4], at: usize)
     requires { ⌜ at + 3 < length (now t) ⌝ }
@@ -162,7 +152,7 @@ fn fill_row(t: &mut [f64], four: [f64; 4], i: usize, m: usize, b: P2) -> bool
     requires { ⌜ (m ≤ 66) × (length (now t) ≡ m + 2) × (3 ≤ i) × (i < m) ⌝ }
     ensures { λ r. ⌜ Stored (listed 0 (m + 2) (withSides plain m (spread plain four i) (view b))) (now (t .exit)) r ⌝ }
 {
-    clear_row(t);
+    buffer::clear(t);
     put_four(t, four, i - 3);
     put_sides(t, m, b);
     let six = [b.y, b.x, four[3], four[2], four[1], four[0]];

@@ -65,26 +65,6 @@ fn four_of(w: &[f64], ns: &[u8], c: usize, m: usize, b: usize, at: usize) -> [Dv
     [p, q, r, s]
 }
 
-// Every double cleared.
-fn clear_doubles(w: &mut [f64])
-    ensures { λ _. ⌜ now (w .exit) ≡ replicate (length (now (w .entry))) zero64 ⌝ }
-{
-    let end = w.len();
-    for i in 0..end {
-        w[i] = 0.0;
-    }
-}
-
-// Every count cleared.
-fn clear_counts(ns: &mut [u8])
-    ensures { λ _. ⌜ now (ns .exit) ≡ replicate (length (now (ns .entry))) 0 ⌝ }
-{
-    let end = ns.len();
-    for i in 0..end {
-        ns[i] = 0;
-    }
-}
-
 // Four answers of the rows that the slices are; both are cleared.
 fn solve_lent(w: &mut [f64], ns: &mut [u8], m: usize, c: usize, at: usize) -> Four
     requires { ⌜ Room c (now w) (now ns) × (length (now ns) ≡ roomOf m) × (m ≤ 14) ⌝ }
@@ -95,8 +75,8 @@ fn solve_lent(w: &mut [f64], ns: &mut [u8], m: usize, c: usize, at: usize) -> Fo
     let fine = dense::solve_rows(w, ns, c, m);
     let xs = four_of(w, ns, c, m, m, at);
     let ys = four_of(w, ns, c, m, m + 1, at);
-    clear_doubles(w);
-    clear_counts(ns);
+    buffer::clear(w);
+    buffer::clear_bytes(ns);
     if fine {
         return Four { xs, ys, fine };
     }

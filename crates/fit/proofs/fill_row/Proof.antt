@@ -21,7 +21,7 @@ returns : tie.Need-returns
 returns c =
     let sides = c .before .before .before .before .put-sides .ensures in
     let four = c .before .before .before .before .before .before .before .before .put-four .ensures in
-    let clear = c .before .before .before .before .before .before .before .before .before .before .before .before .clear-row .ensures in
+    let clear = c .before .before .before .before .before .before .before .before .before .before .before .before .clear .ensures in
     let s = c .before .before .before .before .before .before .before .before .before .before .before .before .before .before .before in
     six-stored _ (s .args .i) (s .args .m) (view (s .args .b)) (s .pre .2) (s .pre .3) (s .pre .1) clear four sides (ap (λ (n : ℕ). not (ltb n 6)) (c .first-wild .ensures))
 

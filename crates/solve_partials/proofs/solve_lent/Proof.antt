@@ -25,17 +25,17 @@ four-of-requires-2 c κs =
     (room-kept (b .pre .0) (omega (arith, kept)) (omega (arith, kept)), omega (arith, kept, b .pre .1), b .pre .2, omega arith)
 
 -- what the clearing leaves
-left-doubles : (c : tie.After-clear-doubles) → c .clear-doubles .last .0 ≡ replicate (length (c .before .before .before .before .before .before .before .before .before .before .before .before .before .before .before .before .before .args .w .now)) zero64
+left-doubles : (c : tie.After-clear) → c .clear .last .0 ≡ replicate (length (c .before .before .before .before .before .before .before .before .before .before .before .before .before .before .before .before .before .args .w .now)) zero64
 left-doubles c =
     let call = c .before .before .before .before .before .before .before .before .before .before .before .before .solve-rows in
     let e : length (call .last .0) ≡ length (c .before .before .before .before .before .before .before .before .before .before .before .before .before .before .before .before .before .args .w .now) = omega (arith, call .kept) in
-    c .clear-doubles .ensures ∙ ap (λ (n : ℕ). replicate n zero64) e
+    c .clear .ensures ∙ ap (λ (n : ℕ). replicate n zero64) e
 
-left-counts : (c : tie.After-clear-counts) → c .clear-counts .last .0 ≡ replicate (length (c .before .before .before .before .before .before .before .before .before .before .before .before .before .before .before .before .before .before .before .before .before .args .ns .now)) 0
+left-counts : (c : tie.After-clear-bytes) → c .clear-bytes .last .0 ≡ replicate (length (c .before .before .before .before .before .before .before .before .before .before .before .before .before .before .before .before .before .before .before .before .before .args .ns .now)) 0
 left-counts c =
     let call = c .before .before .before .before .before .before .before .before .before .before .before .before .before .before .before .before .solve-rows in
     let e : length (call .last .1 .0) ≡ length (c .before .before .before .before .before .before .before .before .before .before .before .before .before .before .before .before .before .before .before .before .before .args .ns .now) = omega (arith, call .kept) in
-    c .clear-counts .ensures ∙ ap (λ (n : ℕ). replicate n 0) e
+    c .clear-bytes .ensures ∙ ap (λ (n : ℕ). replicate n 0) e
 
 returns : tie.Need-returns
 returns c =

@@ -7,7 +7,8 @@
  *
  * Slices. A slice is a pointer and the number of its entries. With no entries the pointer may be
  * null: nothing is read or written through it. The other pointers (`length`, `from`, `to`, `t`,
- * `count`) are never null. What is lent for writing overlaps nothing else that the call is given.
+ * `count`, `answer`, `length_out`) are never null. What is lent for writing overlaps nothing else
+ * that the call is given.
  *
  * Refusals. Where a function answers a uint64_t it is a refusal, and 0 is none. The rows are tried
  * from the top, and the first that applies is the answer:
@@ -22,7 +23,9 @@
  *     8  the first four knots are not equal, or the last four
  *     9  the first knot is not below the last
  *    10  one of the knots 4 to n - 1, counted from 0, stands more than 3 times in the list
- *    11  a coordinate is not finite, of the curve's points or of the point searched for
+ *    11  a coordinate is not finite, of the curve's points or of the point searched for or moved
+ *    17  of records alone (threshdune_parts.h): the stored length is not finite or has not the bits
+ *        of the polygon's, or the index of the point to be moved is not below the count
  *    12  the parameter is not finite
  *    13  the order is above 4, or there are over 16 samples to a span
  *    14  a slice for the answer or for work is too short
@@ -48,12 +51,18 @@ extern "C" {
 
 #define THRESHDUNE_NO_ROOM 14 /* a slice is too short */
 
-/* ---- making a curve */
+/* ---- making a curve
+ *
+ * A build is refused 15 where the length of the control polygon is not finite: one edge of 1.35e154
+ * makes it so, since its square overflows; one of 1.34e154 does not. threshdune_length of the
+ * coordinates and knots that a build wrote gives that length, with the bits that a record of the
+ * curve has to store (threshdune_parts.h).
+ */
 
 /* The curve of n control points, x and y in turn: over `knots` where `given` is not 0, else over
  * uniform ones, and `knots` is not read then.
  * Room: 2 * n doubles in `control`, x and y in turn; n + 4 in `knots_out`.
- * Refusals: 1 to 4, 6 to 11 (6 to 10 of given knots alone), 14. */
+ * Refusals: 1 to 4, 6 to 11 (6 to 10 of given knots alone), 14, 15. */
 uint64_t threshdune_build_control(const double *coords, size_t coords_len, uint64_t given,
                                   const double *knots, size_t knots_len, double *control,
                                   size_t control_len, double *knots_out, size_t knots_out_len);
@@ -95,7 +104,9 @@ uint64_t threshdune_evaluate_many(const double *coords, size_t coords_len, const
 uint64_t threshdune_point_tangent(const double *coords, size_t coords_len, const double *knots,
                                   size_t knots_len, double t, double *out, size_t out_len);
 
-/* The length of the control polygon. Refusal: 15. */
+/* The length of the control polygon: from +0.0, in rising order, the threshdune_plane_norm of the
+ * difference of each control point and the one before. Refusal: 15, but never of what a build
+ * wrote. */
 uint64_t threshdune_length(const double *coords, size_t coords_len, const double *knots,
                            size_t knots_len, double *length);
 
@@ -139,7 +150,8 @@ uint64_t threshdune_closest_many(const double *coords, size_t coords_len, const 
  * `counts`, and (n + 2) * (n + 4) * (c + 1) doubles in `work`; for control points none. Once 1 to
  * 14 do not apply, that part of both holds zeros afterwards, and the rest is as it was.
  * Refusals: 1 to 11 by the form, 4 over 12 handles, 11 for the point too, 12, 14 for each of the
- * four, 15 for a number or a partial that the fit stores or that is answered. */
+ * four, 15 for a number or a partial that the fit stores or that is answered. No length is stored
+ * here, and none is judged. */
 uint64_t threshdune_residual(const double *handles, size_t handles_len, uint64_t fit,
                              uint64_t given, const double *knots, size_t knots_len, double px,
                              double py, double t, double *work, size_t work_len, uint8_t *counts,

@@ -144,45 +144,63 @@ uint64_t threshdune_partials_basis(const double *w, size_t w_len, const uint64_t
 
 /* ---- curves as records
  *
- * A record has room for 66 control points and 70 knots, and two counts that say how many there are.
- * It is given as the counts and three slices: the x, the y, the knots. What lies past a slice's end
- * reads as +0.0, what lies past the room is not read, and what lies past a count does not matter.
- * Each function checks the record again, whatever its counts say, by 2 to 4 and 6 to 11. Then it
- * answers, or refuses, as its namesake in threshdune.h does, and needs the same room.
+ * A record has room for 66 control points and 70 knots, two counts that say how many there are, and
+ * the length of its control polygon. It is given as the counts, the length and three slices: the x,
+ * the y, the knots. What lies past a slice's end reads as +0.0, what lies past the room is not
+ * read, and what lies past a count does not matter. The length of a curve that was built is what
+ * threshdune_length answers of the coordinates and knots that the build wrote.
+ * Each function checks the record again, whatever its counts say, by 2 to 4 and 6 to 11, and then
+ * by 17: `length` is not finite, or has not the bits of the sum over the counted control points, as
+ * threshdune_length has it; -0.0 is refused where the sum is +0.0. Then the function answers, or
+ * refuses, as its namesake in threshdune.h does, and needs the same room.
  */
 
-uint64_t threshdune_record_evaluate(uint64_t points, uint64_t knot_count, const double *xs,
-                                    size_t xs_len, const double *ys, size_t ys_len,
-                                    const double *knots, size_t knots_len, double t,
+uint64_t threshdune_record_evaluate(uint64_t points, uint64_t knot_count, double length,
+                                    const double *xs, size_t xs_len, const double *ys,
+                                    size_t ys_len, const double *knots, size_t knots_len, double t,
                                     uint64_t order, double *out, size_t out_len);
-uint64_t threshdune_record_evaluate_many(uint64_t points, uint64_t knot_count, const double *xs,
-                                         size_t xs_len, const double *ys, size_t ys_len,
-                                         const double *knots, size_t knots_len, const double *ts,
-                                         size_t ts_len, uint64_t order, double *out,
-                                         size_t out_len, uint64_t *refusals, size_t refusals_len);
-uint64_t threshdune_record_point_tangent(uint64_t points, uint64_t knot_count, const double *xs,
-                                         size_t xs_len, const double *ys, size_t ys_len,
-                                         const double *knots, size_t knots_len, double t,
-                                         double *out, size_t out_len);
-uint64_t threshdune_record_length(uint64_t points, uint64_t knot_count, const double *xs,
-                                  size_t xs_len, const double *ys, size_t ys_len,
-                                  const double *knots, size_t knots_len, double *length);
-uint64_t threshdune_record_domain(uint64_t points, uint64_t knot_count, const double *xs,
-                                  size_t xs_len, const double *ys, size_t ys_len,
+uint64_t threshdune_record_evaluate_many(uint64_t points, uint64_t knot_count, double length,
+                                         const double *xs, size_t xs_len, const double *ys,
+                                         size_t ys_len, const double *knots, size_t knots_len,
+                                         const double *ts, size_t ts_len, uint64_t order,
+                                         double *out, size_t out_len, uint64_t *refusals,
+                                         size_t refusals_len);
+uint64_t threshdune_record_point_tangent(uint64_t points, uint64_t knot_count, double length,
+                                         const double *xs, size_t xs_len, const double *ys,
+                                         size_t ys_len, const double *knots, size_t knots_len,
+                                         double t, double *out, size_t out_len);
+/* The length as it is stored, which has the bits of the sum. Refusals: the record's alone. */
+uint64_t threshdune_record_length(uint64_t points, uint64_t knot_count, double length,
+                                  const double *xs, size_t xs_len, const double *ys, size_t ys_len,
+                                  const double *knots, size_t knots_len, double *answer);
+uint64_t threshdune_record_domain(uint64_t points, uint64_t knot_count, double length,
+                                  const double *xs, size_t xs_len, const double *ys, size_t ys_len,
                                   const double *knots, size_t knots_len, double *from, double *to);
-uint64_t threshdune_record_samples(uint64_t points, uint64_t knot_count, const double *xs,
-                                   size_t xs_len, const double *ys, size_t ys_len,
+uint64_t threshdune_record_samples(uint64_t points, uint64_t knot_count, double length,
+                                   const double *xs, size_t xs_len, const double *ys, size_t ys_len,
                                    const double *knots, size_t knots_len, uint64_t per_span,
                                    double *out, size_t out_len, uint64_t *count);
-uint64_t threshdune_record_closest(uint64_t points, uint64_t knot_count, const double *xs,
-                                   size_t xs_len, const double *ys, size_t ys_len,
+uint64_t threshdune_record_closest(uint64_t points, uint64_t knot_count, double length,
+                                   const double *xs, size_t xs_len, const double *ys, size_t ys_len,
                                    const double *knots, size_t knots_len, double px, double py,
                                    double *t);
-uint64_t threshdune_record_closest_many(uint64_t points, uint64_t knot_count, const double *xs,
-                                        size_t xs_len, const double *ys, size_t ys_len,
-                                        const double *knots, size_t knots_len,
+uint64_t threshdune_record_closest_many(uint64_t points, uint64_t knot_count, double length,
+                                        const double *xs, size_t xs_len, const double *ys,
+                                        size_t ys_len, const double *knots, size_t knots_len,
                                         const double *marks, size_t marks_len, double *out,
                                         size_t out_len, uint64_t *refusals, size_t refusals_len);
+
+/* The record with control point `index`, counted from 0, at (x, y). The counts and knots stay as
+ * they are; what is answered are the coordinates, the x in `xs_out` and the y in `ys_out`, and the
+ * new length. A record of these passes every check.
+ * Room: `points` doubles in each of the two slices. Refusals: the record's, 11 for x and y too, 17
+ * also where the index is not below `points`, 14 for either slice, 15 where the new length is not
+ * finite. */
+uint64_t threshdune_record_move(uint64_t points, uint64_t knot_count, double length,
+                                const double *xs, size_t xs_len, const double *ys, size_t ys_len,
+                                const double *knots, size_t knots_len, uint64_t index, double x,
+                                double y, double *xs_out, size_t xs_out_len, double *ys_out,
+                                size_t ys_out_len, double *length_out);
 
 #ifdef __cplusplus
 }

@@ -7,18 +7,18 @@ use crate::sides::Bench;
 use original::spline::{BSpline, Curve, P2};
 
 /// A wavy curve over uniform knots, in the forms that the two sides take.
-struct Wave {
-    coords: Vec<f64>,
-    spline: BSpline,
-    curve: Curve<f64>,
-    floor: Floor,
+pub struct Wave {
+    pub coords: Vec<f64>,
+    pub spline: BSpline,
+    pub curve: Curve<f64>,
+    pub floor: Floor,
 }
 
 /// Parameters of one call.
 const MANY: usize = 256;
 
 impl Wave {
-    fn of(n: usize) -> Self {
+    pub fn of(n: usize) -> Self {
         let point = |k: usize| [k as f64 * 1.3, (k as f64 * 0.9).sin() * 4.0];
         let points: Vec<[f64; 2]> = (0..n).map(point).collect();
         let handles = points.iter().map(|&[x, y]| P2::new(x, y)).collect();
@@ -74,10 +74,15 @@ impl Wave {
     }
 }
 
-pub fn time(bench: &mut Bench) {
-    // all over the domain, not in rising order; at a knot, at the ends and past them
+/// Parameters all over the domain, not in rising order; at a knot, at the ends and past them.
+pub fn parameters() -> Vec<f64> {
     let mut at: Vec<f64> = (0..28).map(|k| (k * 11 % 29) as f64 / 29.0).collect();
     at.extend([0.5, 1.0, 1.25, -0.125]);
+    at
+}
+
+pub fn time(bench: &mut Bench) {
+    let at = parameters();
     for n in [8, 20, 66] {
         let wave = Wave::of(n);
         bench.case_over_floor(
@@ -136,7 +141,7 @@ fn each(curve: &Curve<f64>, ts: &[f64]) -> [f64; 2 * MANY] {
 }
 
 #[inline(never)] // as ours is in a library
-fn point(spline: &BSpline, t: f64) -> [f64; 2] {
+pub fn point(spline: &BSpline, t: f64) -> [f64; 2] {
     spline.point(t)
 }
 

@@ -12,6 +12,7 @@ mod floor;
 #[allow(dead_code)]
 #[path = "../compare_src/ours.rs"]
 mod ours;
+mod records;
 mod residuals;
 mod root;
 mod sides;
@@ -27,6 +28,7 @@ fn main() {
     let mut bench = Bench::of(words.into_iter().next());
     root::time(&mut bench);
     curves::time(&mut bench);
+    records::time(&mut bench);
     fits::time(&mut bench);
     residuals::time(&mut bench);
     closest::time(&mut bench);

@@ -7,13 +7,13 @@ use crate::layouts::{not_finite, parameter};
 use crate::ours;
 use crate::random::Random;
 use crate::records::Record;
-use crate::table::{NOT_FINITE, Table, agrees_with_check, their_check, their_check_of};
+use crate::table::{NOT_FINITE, Table, agrees_with_check, their_check_of};
 use crate::tally::{Tally, hex, same};
 use original::access;
 use original::spline::{Curve, P2};
 
 /// For the tally, by number.
-pub const REFUSED: [&str; 15] = [
+pub const REFUSED: [&str; 17] = [
     "refused  1",
     "refused  2",
     "refused  3",
@@ -29,14 +29,36 @@ pub const REFUSED: [&str; 15] = [
     "refused 13",
     "refused 14",
     "refused 15",
+    "refused 16",
+    "refused 17",
 ];
 
 /// How a curve crosses.
 pub enum Form<'a> {
     /// Control points, x and y in turn, and knots.
     Slices { coords: &'a [f64], knots: &'a [f64] },
-    /// Two counts and three slices.
+    /// Two counts, a length and three slices.
     Record(&'a Record),
+}
+
+/// Calls a door that takes a record: the record first, then what else it takes.
+macro_rules! record_door {
+    ($record:expr, $name:ident, $($argument:expr),*) => {
+        unsafe {
+            ours::$name(
+                $record.points,
+                $record.knot_count,
+                $record.length,
+                $crate::asked::start(&$record.xs),
+                $record.xs.len(),
+                $crate::asked::start(&$record.ys),
+                $record.ys.len(),
+                $crate::asked::start(&$record.knots),
+                $record.knots.len(),
+                $($argument),*
+            )
+        }
+    };
 }
 
 /// Calls the door of this form: the curve first, then what both doors take.
@@ -52,24 +74,12 @@ macro_rules! door {
                     $($argument),*
                 )
             },
-            Form::Record(record) => unsafe {
-                ours::$record(
-                    record.points,
-                    record.knot_count,
-                    $crate::asked::start(&record.xs),
-                    record.xs.len(),
-                    $crate::asked::start(&record.ys),
-                    record.ys.len(),
-                    $crate::asked::start(&record.knots),
-                    record.knots.len(),
-                    $($argument),*
-                )
-            },
+            Form::Record(record) => $crate::asked::record_door!(record, $record, $($argument),*),
         }
     };
 }
 
-pub(crate) use door;
+pub(crate) use {door, record_door};
 
 impl Form<'_> {
     pub fn tell(&self) -> String {
@@ -101,7 +111,7 @@ pub struct Asked<'a> {
     /// As many as are counted.
     knots: &'a [f64],
     pub messy: bool,
-    /// The rows up to 11.
+    /// The rows up to 11, and 17 of a record.
     pub table: Table,
     pub check: Option<u64>,
     /// Where none of them applies.
@@ -122,15 +132,14 @@ impl<'a> Asked<'a> {
     }
 
     pub fn of_record(record: &'a Record, messy: bool) -> Self {
-        let (points, knots) = (record.counted_points(), record.counted_knots());
-        let table = Table::of_record(record.points, record.knot_count, knots, &points.concat());
+        let (table, knots) = (record.table(&[], false), record.counted_knots());
         Asked {
             form: Form::Record(record),
             knots,
             messy,
             table,
-            check: their_check(record.points, Some(record.listed_knots())),
-            curve: (table.first == 0).then(|| theirs(points, knots)),
+            check: record.check(),
+            curve: (table.first == 0).then(|| theirs(record.counted_points(), knots)),
         }
     }
 
@@ -167,7 +176,7 @@ impl<'a> Asked<'a> {
         }
     }
 
-    fn evaluate(&self, random: &mut Random, tally: &mut Tally) {
+    pub fn evaluate(&self, random: &mut Random, tally: &mut Tally) {
         let (t, place) = self.parameter(random);
         let order = self.order(random);
         let mut room = Room::draw(random, 2 * (order.min(9) as usize + 1), self.messy);
@@ -225,7 +234,7 @@ impl<'a> Asked<'a> {
         });
     }
 
-    fn length(&self, random: &mut Random, tally: &mut Tally) {
+    pub fn length(&self, random: &mut Random, tally: &mut Tally) {
         let mut room = Room::behind(random, 1);
         let refusal = door!(
             &self.form,

@@ -7,7 +7,7 @@ use crate::layouts::{Layout, inside, mirror, not_finite, stepped, uniform};
 use crate::ours;
 use crate::random::{Flavour, Random};
 use crate::records::Record;
-use crate::table::{NOT_FINITE, Table, their_check, their_check_of};
+use crate::table::{NOT_FINITE, Table, their_check_of};
 use crate::tally::{Tally, hex, same};
 use replaced::spline::{BSpline, Curve, P2, closest_param};
 
@@ -66,7 +66,7 @@ pub struct Search<'a> {
     points: Vec<[f64; 2]>,
     knots: &'a [f64],
     pub point: [f64; 2],
-    /// The rows up to 11.
+    /// The rows up to 11, and 17 of a record.
     pub table: Table,
     pub check: Option<u64>,
 }
@@ -84,15 +84,13 @@ impl<'a> Search<'a> {
     }
 
     pub fn of_record(record: &'a Record, point: [f64; 2]) -> Self {
-        let (points, knots) = (record.counted_points(), record.counted_knots());
-        let numbers = [points.concat(), point.to_vec()].concat();
         Search {
             form: Form::Record(record),
-            knots,
+            points: record.counted_points(),
+            knots: record.counted_knots(),
             point,
-            table: Table::of_record(record.points, record.knot_count, knots, &numbers),
-            check: their_check(record.points, Some(record.listed_knots())),
-            points,
+            table: record.table(&point, false),
+            check: record.check(),
         }
     }
 
@@ -233,7 +231,7 @@ impl Unlike {
 /// A curve that is searched, and where a near tie is to be had on it.
 pub struct Drawn {
     pub layout: Layout,
-    kind: &'static str,
+    pub kind: &'static str,
     /// A point that lies equally far from two or more points of the curve.
     middle: [f64; 2],
 }

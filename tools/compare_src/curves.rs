@@ -2,7 +2,9 @@
 //! the curve, or of a damaged copy of it.
 
 use crate::asked::{Asked, Room, Wanted, points, start};
+use crate::judge::polygon_length;
 use crate::layouts::Layout;
+use crate::moves;
 use crate::ours;
 use crate::random::Random;
 use crate::table::{Table, their_check_of};
@@ -64,7 +66,8 @@ fn build(layout: &Layout, messy: bool, random: &mut Random, tally: &mut Tally) {
     let wanted = Wanted::of(table, || {
         let curve = BSpline::from_control_points(&points(coords), knots);
         let curve = curve.expect("accepted, as no row of the table applies");
-        vec![curve.control_points.concat(), curve.knots]
+        let length = polygon_length(&curve.control_points);
+        vec![curve.control_points.concat(), curve.knots, vec![length]]
     });
     tally.kind(if layout.given {
         "build over given knots"
@@ -82,4 +85,7 @@ fn build(layout: &Layout, messy: bool, random: &mut Random, tally: &mut Tally) {
         let fault = fault.unwrap_or_default();
         format!("build_control: {fault}, of [{coords}], given {given}: [{handed}]")
     });
+    if wanted.number == 0 {
+        moves::of_built(coords.len() / 2, [&control, &knots_out], random, tally);
+    }
 }

@@ -2,8 +2,9 @@
 //! original's own numbers. No knots can be given with them in C, so that refusal 5 is not met here: tools/compare-sheets meets it.
 
 use crate::asked::{Asked, Room, Wanted, points, start};
-use crate::judge::Fit;
+use crate::judge::{Fit, polygon_length};
 use crate::layouts::{collinear, mirror, not_finite};
+use crate::moves;
 use crate::ours;
 use crate::random::{Flavour, Random};
 use crate::table::{NOT_FINITE, Table, their_check_of_fit};
@@ -72,17 +73,22 @@ fn build(coords: &[f64], messy: bool, random: &mut Random, tally: &mut Tally) {
         let fault = fault.unwrap_or_default();
         format!("build_fit: {fault}, of [{}]", hex(coords))
     });
-    if wanted.number == 0 && random.once_in(4) {
+    if wanted.number != 0 {
+        return;
+    }
+    moves::of_built(m, [&control, &knots], random, tally);
+    if random.once_in(4) {
         Asked::of_slices(wanted.entries(0), wanted.entries(1), messy).ask(random, tally);
     }
 }
 
-/// The original's control points and knots, or nothing where a number stored on the way is not finite; and how the judge of that came to
-/// other numbers, if it did.
+/// The original's control points, knots and length, or nothing where that or a number stored on the way is not finite; and how the judge
+/// of these came to other numbers, if it did.
 fn through(points: &[[f64; 2]], tally: &mut Tally) -> (Option<Vec<Vec<f64>>>, Option<String>) {
     let theirs = BSpline::from_fit_points(points).expect("two points or more");
     let fit = Fit::through(points);
-    let theirs = [theirs.control_points.concat(), theirs.knots];
+    let length = polygon_length(&theirs.control_points);
+    let theirs = [theirs.control_points.concat(), theirs.knots, vec![length]];
     let alike = |ours: &[f64], theirs: &[f64]| {
         ours.len() == theirs.len() && ours.iter().zip(theirs).all(|(a, b)| same(*a, *b))
     };
@@ -95,10 +101,14 @@ fn through(points: &[[f64; 2]], tally: &mut Tally) -> (Option<Vec<Vec<f64>>>, Op
         (true, true, _) => tally.kind("two parameters equal, answered"),
         (true, false, _) => tally.kind("two parameters equal, refused"),
         (false, false, true) => tally.kind("not finite on the way, the answer finite"),
+        (false, true, false) => tally.kind("the length alone not finite"),
         _ => {}
     }
     let fault = unlike.then(|| "the judge comes to other numbers than the original".into());
-    (fit.fine.then(|| theirs.into()), fault)
+    (
+        (fit.fine && length.is_finite()).then(|| theirs.into()),
+        fault,
+    )
 }
 
 /// One number or count changed, mostly so that a refusal applies.

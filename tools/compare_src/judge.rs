@@ -1,10 +1,21 @@
 //! Whether a fit stores a number that is not finite, which the original does not tell. Its build is repeated here over the original's own
 //! scalars, plain or with partials, in the order of its `spline.rs`, and every number that docs/RULES.md, "When 15 is given", names is
 //! looked at when it is stored: knots, matrix, right sides, row multipliers, control points. The basis values are the original's own.
-//! What it comes to can be held to the original's answer.
+//! What it comes to can be held to the original's answer. The length of the polygon, which a plain build stores and one with partials does
+//! not, is by itself.
 
 use crate::told::{KNOTS, basis};
-use original::spline::{Dv, Scalar};
+use original::spline::{Curve, Dv, P2, Scalar};
+
+/// The length that a plain build stores beside these control points: the original's own.
+pub fn polygon_length(control: &[[f64; 2]]) -> f64 {
+    let curve = Curve {
+        degree: 3,
+        knots: Vec::new(),
+        control: control.iter().map(|&[x, y]| P2::new(x, y)).collect(),
+    };
+    curve.polygon_length()
+}
 
 /// A number that a build stores.
 pub trait Stored: Scalar {

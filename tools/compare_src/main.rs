@@ -16,6 +16,7 @@ mod judge;
 mod layouts;
 mod lent;
 mod marks;
+mod moves;
 mod numbers;
 mod ours;
 mod partials;
@@ -81,6 +82,11 @@ const SECTIONS: &[Section] = &[
         name: "records",
         rounds: 505_000,
         run: records::run,
+    },
+    Section {
+        name: "moves",
+        rounds: 505_000,
+        run: moves::run,
     },
     Section {
         name: "many points",

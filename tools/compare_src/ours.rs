@@ -279,13 +279,14 @@ unsafe extern "C" {
     ) -> u64;
 }
 
-/// Declares the doors that take a record: its counts and its slices first.
+/// Declares the doors that take a record: its counts, its length and its slices first.
 macro_rules! records {
     ($($name:ident, ($($own:ident: $of:ty),*);)*) => {
         unsafe extern "C" {
             $(pub fn $name(
                 points: u64,
                 knot_count: u64,
+                length: f64,
                 xs: *const f64,
                 xs_len: usize,
                 ys: *const f64,
@@ -303,10 +304,12 @@ records! {
     threshdune_record_evaluate_many, (ts: *const f64, ts_len: usize, order: u64, out: *mut f64, out_len: usize,
         refusals: *mut u64, refusals_len: usize);
     threshdune_record_point_tangent, (t: f64, out: *mut f64, out_len: usize);
-    threshdune_record_length, (length: *mut f64);
+    threshdune_record_length, (answer: *mut f64);
     threshdune_record_domain, (from: *mut f64, to: *mut f64);
     threshdune_record_closest, (px: f64, py: f64, t: *mut f64);
     threshdune_record_closest_many, (marks: *const f64, marks_len: usize, out: *mut f64, out_len: usize,
         refusals: *mut u64, refusals_len: usize);
     threshdune_record_samples, (per_span: u64, out: *mut f64, out_len: usize, count: *mut u64);
+    threshdune_record_move, (index: u64, x: f64, y: f64, xs_out: *mut f64, xs_out_len: usize, ys_out: *mut f64,
+        ys_out_len: usize, length_out: *mut f64);
 }

@@ -4,6 +4,9 @@
 
 use original::spline::check;
 
+/// The rows, from the top: 17 stands after 11.
+const ROWS: [u64; 16] = [1, 2, 3, 4, 5, 6, 7, 8, 9, 10, 11, 17, 12, 13, 14, 15];
+
 /// The most control points, and the most fit points.
 const MOST: u64 = 66;
 const MOST_FIT: u64 = 64;
@@ -20,14 +23,15 @@ pub struct Table {
     pub first: u64,
     /// Whether another row applies too.
     pub several: bool,
-    last: u64,
+    /// So many of the rows are behind.
+    behind: usize,
 }
 
 impl Table {
-    /// The next row. Rows come in the table's order, which is that of their numbers.
+    /// The next row. Rows come in the table's order.
     pub fn row(mut self, number: u64, applies: bool) -> Self {
-        assert!(number > self.last, "row {number} after {}", self.last);
-        self.last = number;
+        let ahead = ROWS[self.behind..].iter().position(|row| *row == number);
+        self.behind += 1 + ahead.expect("a row that is not behind yet");
         if applies {
             self.several = self.first != 0;
             if self.first == 0 {
@@ -58,9 +62,16 @@ impl Table {
     }
 
     /// The rows 2 to 11 for a record: its counts, whatever they are, and the knots and coordinates that they count, as far as
-    /// there is room for them.
-    pub fn of_record(points: u64, knot_count: u64, knots: &[f64], coords: &[f64]) -> Self {
-        Table::default().rest(points, Some((knot_count, knots)), coords)
+    /// there is room for them; and row 17, of which the caller knows whether it applies.
+    pub fn of_record(
+        [points, knot_count]: [u64; 2],
+        knots: &[f64],
+        coords: &[f64],
+        unlike: bool,
+    ) -> Self {
+        Table::default()
+            .rest(points, Some((knot_count, knots)), coords)
+            .row(17, unlike)
     }
 
     /// The rows 1 to 11 for fit points. A list of knots that is given is refused, whatever is in it.

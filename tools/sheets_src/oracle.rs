@@ -1,7 +1,7 @@
 //! The oracle's sheet mode: what docs/RULES.md, "The sheet", has the program answer, by the original. A sheet is read line by line, which is not how the
 //! program does it; the rows of refusals and the judge of 15 are those of tools/compare.
 
-use crate::judge::Fit;
+use crate::judge::{Fit, polygon_length};
 use crate::table::{NOT_FINITE, Table, agrees_with_check, their_check_of, their_check_of_fit};
 use original::spline::BSpline;
 
@@ -129,14 +129,15 @@ impl Sheet {
             return Err(table.first);
         }
         let curve = BSpline::new(&self.points(), self.fit, self.given()).expect("checked");
-        if self.fit && !fine(&self.points(), &curve) {
-            return Err(NOT_FINITE);
+        let stored = !self.fit || fine(&self.points(), &curve);
+        match stored && polygon_length(&curve.control_points).is_finite() {
+            true => Ok(curve),
+            false => Err(NOT_FINITE),
         }
-        Ok(curve)
     }
 }
 
-/// Whether every number that the fit stores is finite. The judge of that has to come to the original's own numbers.
+/// Whether every number that the fit stores beside the length is finite. The judge of that has to come to the original's own numbers.
 fn fine(points: &[[f64; 2]], curve: &BSpline) -> bool {
     let fit = Fit::through(points);
     let bits = |list: &[f64]| -> Vec<u64> {

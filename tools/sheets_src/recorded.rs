@@ -41,6 +41,7 @@ pub fn sheets() -> Vec<Vec<u8>> {
     all.push([text(&longest()), b"\n".to_vec()].concat());
     all.extend(refused().iter().map(text));
     all.extend(numbers().iter().map(text));
+    all.extend(lengths().iter().map(text));
     all
 }
 
@@ -285,11 +286,12 @@ fn refused() -> Vec<Sheet> {
         &[f64::NAN, 0.5, f64::INFINITY, f64::NEG_INFINITY, -f64::NAN],
     ));
     all.push(curve(true, 4, &[1e308, 0.5, -1e308, f64::NAN]));
+    // 15 of a build: the length
     all.push(Sheet {
         coords: vec![1e308, -1e308, -1e308, 1e308, 1e308, -1e308, -1e308, 1e308],
         ..curve(false, 0, &[0.0, 0.5, 1.0, 1.5, 2.0])
     });
-    // 15 of a build: a step that is infinite, and parameters that are equal
+    // a step that is infinite, and parameters that are equal; of two points the step does not matter, but the length
     let far = |list: &[f64]| Sheet {
         coords: list.to_vec(),
         ..fit(0)
@@ -356,6 +358,24 @@ fn numbers() -> Vec<Sheet> {
         all.push(Sheet {
             knots: knots.map(|k| k * scale).to_vec(),
             ..curve(false, 7, &at)
+        });
+    }
+    all
+}
+
+/// Polygons whose length is not finite, and just finite: with an edge of 1.35e154, whose square overflows, and with one of 1.34e154. The polygon of a
+/// fit of two points has three edges, each a third of the way between them. At the last parameter the point is not finite.
+fn lengths() -> Vec<Sheet> {
+    let at = [0.0, 0.5, 1.0, -1e200];
+    let mut all = Vec::new();
+    for edge in [1.35e154, 1.34e154] {
+        all.push(Sheet {
+            coords: vec![0.0, 0.0, edge, 0.0, edge, 1.0, edge, 2.0],
+            ..curve(false, 0, &at)
+        });
+        all.push(Sheet {
+            coords: vec![0.0, 0.0, 3.0 * edge, 0.0],
+            ..curve(true, 0, &at)
         });
     }
     all

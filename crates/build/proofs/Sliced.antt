@@ -19,23 +19,20 @@ use Rattle.knots.proofs.Accepted.{Accepted}
 use Rattle.buffer.specs.Pasted.{pasted}
 use Rattle.outcome.specs.Outcome.{answering}
 use Rattle.outcome.proofs.Doors.{put-all}
-use Rattle.shape.proofs.Trusted.{trusted}
 use Rattle.curve.specs.declared.Curve.{Curve}
 use Rattle.curve.specs.declared.Built.{Built}
-use Rattle.curve.specs.Record.{emptyCurve, byRecord}
+use Rattle.curve.specs.Record.{emptyCurve}
 use Rattle.curve.specs.Build.{building}
+use Rattle.curve.proofs.Recheck.{record-sound}
+use Rattle.curve.proofs.Put.{put-built}
 use Rattle.curve.proofs.Builds.{built-refusal, build-parts}
 use Rattle.fit.specs.Fit.{curveThrough, Making, making}
-use Rattle.build.specs.Build.{curveOf, storedFine, controlsIn, lacksWork, rulesOf, builtBy, inTurn, lacksRoom, sliced, builtInto}
+use Rattle.build.specs.Build.{curveOf, controlsIn, lacksWork, rulesOf, builtBy, inTurn, lacksRoom, sliced, builtInto}
 use Rattle.build.proofs.Doors.{rechecked}
 
 length-in-turn : (n : ℕ) (xs ys : List Float) → length (inTurn n xs ys) ≡ 2 * n
 unfolding inTurn
 length-in-turn n xs ys = length-listed 0 (2 * n) _
-
--- none of the numbers is put
-put-none : (numbers out : List Float) → pasted numbers 0 out 0 ≡ out
-put-none numbers out = put-all numbers 0 out zero-le zero-le ∙ sym (paste-zero out 0 numbers)
 
 -- the counts of the curve are those that room is asked for
 points-are : (form : Form) (coords : List Float) (given : Bool) (ks : List Float) → curveOf form coords given ks .points ≡ controlsIn form coords
@@ -64,13 +61,13 @@ module _ (form : Form) (coords : List Float) (given : Bool) (ks work control out
 
   module _ (passed : Passed rules) where
     sound : Accepted (take (curve .points + 4) (curve .knots)) (curve .points)
-    sound = trusted _ (byRecord curve .shape) (rechecked form coords given ks short passed)
+    sound = record-sound curve .knots (rechecked form coords given ks short passed)
 
     stored : m + 4 ≤ length (curve .knots)
     stored = omega (arith, sound .sound .long, length-take (curve .points + 4) (curve .knots), points-are form coords given ks)
 
     room : lacksRoom form coords control out ≡ false
-    room = or-right (lacksWork form coords work) _ (build-parts form coords given ks short (storedFine form coords given ks) passed .1)
+    room = or-right (lacksWork form coords work) _ (build-parts form coords given ks short _ passed .1)
 
   module _ {work′ : List Float} {b : Built} {lacks : Bool} (told : lacks ≡ lacksRoom form coords control out)
       (answer : making b work′ ≡ builtBy form coords given ks (lacksWork form coords work || lacks) work) where
@@ -88,18 +85,6 @@ module _ (form : Form) (coords : List Float) (given : Bool) (ks work control out
         by true h = sound (eqb-true _ _ h) .room
         by false h = zero-le
 
-    -- numbers of what is built, of which there is none in the empty curve
-    put-built : (numbers : Curve → List Float) (count : Curve → ℕ) (l : List Float) {l′ N : List Float} {k : ℕ} → count emptyCurve ≡ 0
-        → numbers curve ≡ N → count curve ≡ k → (Passed rules → (k ≤ length N) × (k ≤ length l))
-        → l′ ≡ pasted (numbers (b .curve)) (count (b .curve)) l 0 → l′ ≡ answering rules N k l .out
-    unfolding building answering
-    put-built numbers count l {N = N} {k = k} none same many fit e =
-        e ∙ ap (λ (x : Built). pasted (numbers (x .curve)) (count (x .curve)) l 0) is-built ∙ by (passes rules) refl
-      where
-        by : (t : Bool) → passes rules ≡ t → pasted (numbers (cond t curve emptyCurve)) (count (cond t curve emptyCurve)) l 0 ≡ cond t (paste l 0 N k) l
-        by true h = let r = fit (eqb-true _ _ h) in rw (same, many) (put-all N k l (r .0) (r .1))
-        by false h = rw none (put-none (numbers emptyCurve) l)
-
     pub in-slices : {control′ out′ : List Float}
         → control′ ≡ pasted (inTurn (b .curve .points) (b .curve .xs) (b .curve .ys)) (2 * b .curve .points) control 0
         → out′ ≡ pasted (b .curve .knots) (b .curve .«knot_count») out 0
@@ -107,10 +92,10 @@ module _ (form : Form) (coords : List Float) (given : Bool) (ks work control out
     in-slices p k =
         let are = points-are form coords given ks in
         let points =
-        put-built (λ d. inTurn (d .points) (d .xs) (d .ys)) (λ d. 2 * d .points) control refl
+        put-built rules curve is-built (λ d. inTurn (d .points) (d .xs) (d .ys)) (λ d. 2 * d .points) control refl
         (ap (λ (n : ℕ). inTurn n (curve .xs) (curve .ys)) are) (ap (λ (n : ℕ). 2 * n) are)
         (λ z. (omega (arith, length-in-turn m (curve .xs) (curve .ys)), ltb-false _ _ (or-left _ _ (room z)))) p in
         let knots =
-        put-built (λ d. d .knots) (λ d. d .«knot_count») out refl refl (knots-are form coords given ks)
+        put-built rules curve is-built (λ d. d .knots) (λ d. d .«knot_count») out refl refl (knots-are form coords given ks)
         (λ z. (stored z, ltb-false _ _ (or-right (ltb (length control) (2 * m)) _ (room z)))) k in
         λ i. sliced (built-refusal rules curve is-built i) (points i) (knots i) (whole i .work)

@@ -20,13 +20,13 @@ abbrev pub turned : List Float → List Float → ℕ → Float
 turned xs ys j = at1 plain (cond (eqb (j % 2) 0) xs ys) (j / 2)
 
 module _ (xs ys : List Float) where
-  even : (i : ℕ) → at1 plain xs i ≡ turned xs ys (2 * i)
+  pub even : (i : ℕ) → at1 plain xs i ≡ turned xs ys (2 * i)
   even i =
       let e : 2 * i % 2 ≡ 0 = omega arith in
       let q : 2 * i / 2 ≡ i = omega arith in
       rw (eq-eqb (2 * i % 2) 0 e, q)
 
-  odd : (i : ℕ) → at1 plain ys i ≡ turned xs ys (2 * i + 1)
+  pub odd : (i : ℕ) → at1 plain ys i ≡ turned xs ys (2 * i + 1)
   odd i =
       let e : (2 * i + 1) % 2 ≡ 1 = omega arith in
       let q : (2 * i + 1) / 2 ≡ i = omega arith in

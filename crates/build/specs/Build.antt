@@ -1,11 +1,12 @@
 -- The one build of every form. docs/RULES.md, "Refusals", "Fit points" and "Work", decides. What the forms differ in stands first, a line for each
 -- form; what a build leaves behind is said once for all of them.
-use mathlib.Core.Bool.{Bool, _||_, cond}
+use mathlib.Core.Bool.{Bool, _&&_, _||_, cond}
 use mathlib.Core.List.{List}
 use Prim.Native.Nat.{ℕ, _+_, _*_, _/_, _%_}
 use lib.ListN.{length}
 use lib.Dec.{ltb, eqb}
 use lib.Ieee.{Float}
+use lib.Ieee.Scale.{finite}
 use Rattle.meaning.specs.Scalar.{plain}
 use Rattle.meaning.specs.Table.{at1}
 use Rattle.meaning.specs.Search.{listed}
@@ -37,7 +38,7 @@ abbrev pub curveOf : Form → List Float → Bool → List Float → Curve
 curveOf Control coords given ks = controlCurve coords given ks
 curveOf Fit coords given ks = curveThrough coords
 
--- every number that is stored for it is finite
+-- every number that is stored for it is finite, but for its length
 abbrev pub storedFine : Form → List Float → Bool → List Float → Bool
 storedFine Control coords given ks = controlFine coords given ks
 storedFine Fit coords given ks = fitFine coords
@@ -59,7 +60,8 @@ lacksWork form coords work = ltb (length work) (workNeeded form (controlsIn form
 
 -- the rules of a build, where `short` tells whether a lent slice is
 abbrev pub rulesOf : Form → List Float → Bool → List Float → Bool → List Row
-rulesOf form coords given ks short = buildRules form coords given ks short (storedFine form coords given ks)
+rulesOf form coords given ks short =
+    buildRules form coords given ks short (storedFine form coords given ks && finite (curveOf form coords given ks .length))
 
 -- what it leaves behind
 abbrev pub builtBy : Form → List Float → Bool → List Float → Bool → List Float → Making

@@ -18,14 +18,14 @@ unfoldable pub roomOf : ℕ → List Float → List Float
 unfolding pasted
 roomOf k s = pasted s (min (length s) k) (replicate k zero64) 0
 
--- a record: its two counts, whatever they are, and its three rooms
-unfoldable pub readCurve : ℕ → ℕ → List Float → List Float → List Float → Curve
+-- a record: its two counts and its length, whatever they are, and its three rooms
+unfoldable pub readCurve : ℕ → ℕ → Float → List Float → List Float → List Float → Curve
 unfolding roomOf
-readCurve n k xs ys ks = record { points = n; «knot_count» = k; xs = roomOf 66 xs; ys = roomOf 66 ys; knots = roomOf 70 ks }
+readCurve n k l xs ys ks = record { points = n; «knot_count» = k; length = l; xs = roomOf 66 xs; ys = roomOf 66 ys; knots = roomOf 70 ks }
 
 -- the same, offered
-abbrev pub asRecord : ℕ → ℕ → List Float → List Float → List Float → Offered
-asRecord n k xs ys ks = byRecord (readCurve n k xs ys ks)
+abbrev pub asRecord : ℕ → ℕ → Float → List Float → List Float → List Float → Offered
+asRecord n k l xs ys ks = byRecord (readCurve n k l xs ys ks)
 
 -- ---- out: the refusal, and what lies behind a lent pointer afterwards; a refusal leaves it as it was
 

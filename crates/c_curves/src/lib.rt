@@ -23,8 +23,15 @@ fn fill(s: &[f64], room: &mut [f64])
 }
 
 // The record with these counts and numbers, sound or not.
-pub fn read_curve(points: u64, knot_count: u64, xs: &[f64], ys: &[f64], knots: &[f64]) -> Curve
-    ensures { λ r. ⌜ r ≡ readCurve points «knot_count» (now (xs .entry)) (now (ys .entry)) (now (knots .entry)) ⌝ }
+pub fn read_curve(
+    points: u64,
+    knot_count: u64,
+    length: f64,
+    xs: &[f64],
+    ys: &[f64],
+    knots: &[f64],
+) -> Curve
+    ensures { λ r. ⌜ r ≡ readCurve points «knot_count» length (now (xs .entry)) (now (ys .entry)) (now (knots .entry)) ⌝ }
 {
     let mut x = [0.0; 66];
     fill(xs, &mut x);
@@ -35,6 +42,7 @@ pub fn read_curve(points: u64, knot_count: u64, xs: &[f64], ys: &[f64], knots: &
     Curve {
         points: points as usize,
         knot_count: knot_count as usize,
+        length,
         xs: x,
         ys: y,
         knots: u,

@@ -6,7 +6,7 @@ use Prim.Native.Nat.{ℕ, suc, _+_, _*_, _%_, _≤_, _<_}
 use native.Mathlib.Nat.{mul-one, suc-ne-zero}
 use native.Mathlib.Omega.{arith}
 use borrow.Author.Tests.{eq-eqb, ne-eqb}
-use lib.Dec.{T, eqb}
+use lib.Dec.{eqb}
 use lib.ListN.{length, getD, set, take, drop}
 use lib.Seq.{set-split, set-getD, drop-cons}
 use lib.Ieee.{Float, nan}
@@ -16,21 +16,22 @@ use Rattle.meaning.specs.Search.{listed}
 use Rattle.meaning.proofs.Filling.{length-listed}
 use Rattle.refusal.specs.declared.Refusal.{Refusal}
 use Rattle.refusal.specs.Refusals.{Row, row, refusal, firstOf}
-use Rattle.refusal.proofs.Rows.{Passed, number-of, numbered, row-applies, row-passes, row-passed, first-decides, second-decides}
+use Rattle.refusal.proofs.Rows.{Passed, number-of, row-applies, row-passes, row-passed, first-decides, second-decides}
 use Rattle.outcome.specs.Outcome.{Outcome}
 use Rattle.outcome.specs.declared.Told.{Told}
 use Rattle.outcome.specs.declared.Told.the-variants.{Is, Refused}
 use Rattle.outcome.specs.Told.{Values, told}
-use Rattle.outcome.proofs.Doors.{tells, after-told}
 use Rattle.plane.specs.Vector.{Vector}
 use Rattle.shape.specs.Shape.{pointsIn}
 use Rattle.shape.specs.Offered.{Offered}
 use Rattle.shape.specs.Trusting.{trusting}
-use Rattle.curve.specs.declared.Curve.{Curve}
+use Rattle.shape.proofs.Sound.{Sound}
+use Rattle.curve.specs.declared.Rooms.{Rooms}
 use Rattle.many.specs.Many.{placeOf, roomRow, many, answeringMany}
 use Rattle.many.proofs.Rooms.{room-passed}
 use Rattle.many.proofs.Asked.{Keeps, Asked, asked-first, asked-long, asked-next, asked-all, many-refused, many-answered}
 use Rattle.closest.specs.Search.{closestAnswer}
+use Rattle.closest.proofs.Past.{search-past}
 use Rattle.closest.specs.Many.{pointAt, handedTo, eachFound, manyRules, closestMany, Room}
 
 -- ---- one place
@@ -112,16 +113,16 @@ module _ {who : Offered} {points out : List Float} {refusals : List ℕ} where
       → Asked 1 (eachFound who points) out refusals (pointsIn points) out′ refusals′
   turned-all a h = asked-all (a .asked) (omega (arith, a .all, a .low))
 
--- the same curve in another record
-pub asked-of : (points : List Float) {k d : Curve} → k ≡ d → {out out′ : List Float} {refusals refusals′ : List ℕ} {n : ℕ}
+-- the same curve in other rooms
+pub asked-of : (points : List Float) {k d : Rooms} → k ≡ d → {out out′ : List Float} {refusals refusals′ : List ℕ} {n : ℕ}
     → Asked 1 (eachFound (trusting (k .points) (k .xs) (k .ys) (k .knots)) points) out refusals n out′ refusals′
     → Asked 1 (eachFound (trusting (d .points) (d .xs) (d .ys) (d .knots)) points) out refusals n out′ refusals′
 asked-of points e {out} {out′} {refusals} {refusals′} {n} a =
-    subst (λ (c : Curve). Asked 1 (eachFound (trusting (c .points) (c .xs) (c .ys) (c .knots)) points) out refusals n out′ refusals′) e a
+    subst (λ (c : Rooms). Asked 1 (eachFound (trusting (c .points) (c .xs) (c .ys) (c .knots)) points) out refusals n out′ refusals′) e a
 
 -- ---- the call
 
-module _ (who : Offered) (t : T (numbered (who .rules))) (points out : List Float) (refusals : List ℕ) where
+module _ (who : Offered) (s : Sound who) (points out : List Float) (refusals : List ℕ) where
   abbrev rules : List Row
   rules = manyRules who points (length out) (length refusals)
 
@@ -144,7 +145,7 @@ module _ (who : Offered) (t : T (numbered (who .rules))) (points out : List Floa
 
     module _ (p : Passed (who .rules)) {r : Refusal} (e : r ≡ firstOf (roomRow (pointsIn points) 1 (length out) (length refusals) ∷ [])) where
       first : r ≡ firstOf (manyRules who points (length out) (length refusals))
-      first = e ∙ sym (later ∙ second-decides (who .rules) room t p)
+      first = e ∙ sym (later ∙ second-decides (who .rules) room (s .counted) p)
 
       pub room-refused : (r .number ≡ 0 → ⊥) → many r out refusals ≡ closestMany who points out refusals
       room-refused h = refused first h
@@ -157,8 +158,9 @@ module _ (who : Offered) (t : T (numbered (who .rules))) (points out : List Floa
       -- each search past the rules is the question by itself
       each-is : (k : ℕ) (place : List Float) → let c = who .shape in
           eachFound (trusting (c .n) (c .xs) (c .ys) (c .knots)) points k place ≡ eachFound who points k place
-      unfolding closestAnswer
-      each-is k place = ap (λ (v : Values). handedTo v place) (tells (after-told (who .rules) t p (record { is = refl })))
+      each-is k place =
+          let past = s .parts p in
+          ap (λ (v : Values). handedTo v place) (search-past who s (past .0) (past .1) (pointAt points k))
 
       pub all-found : r .number ≡ 0 → {out′ : List Float} {refusals′ : List ℕ} → let c = who .shape in
           Asked 1 (eachFound (trusting (c .n) (c .xs) (c .ys) (c .knots)) points) out refusals (pointsIn points) out′ refusals′

@@ -19,7 +19,7 @@ use Rattle.closest.proofs.Least.{fine-is, nearest-is}
 
 module _ (c : Shape Float) (p : Vector Float) where
   abbrev Answers : Values → Type 0
-  Answers r = r ≡ telling (searchRules c p) (closestOf c p ∷ [])
+  Answers r = r ≡ telling (searchRules c p []) (closestOf c p ∷ [])
 
   -- the point's two numbers
   module _ {a : Bool} (x : a ≡ finite (p .x)) where

@@ -7,3 +7,4 @@ pub mod Least
 pub mod Started
 pub mod Nans
 pub mod Each
+pub mod Past

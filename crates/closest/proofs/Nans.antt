@@ -14,6 +14,7 @@ use Rattle.meaning.specs.Loops.{turns, spin}
 use Rattle.meaning.specs.Number.{sizeOf, clampOf}
 use Rattle.refusal.specs.Refusals.{row, firstOf, refusal}
 use Rattle.meaning.proofs.Order.{lt-nan}
+use Rattle.meaning.proofs.Nans.{plus-nan, times-nan}
 use Rattle.span.specs.Span.{spanOf}
 use Rattle.span.proofs.Spans.{span-nan}
 use Rattle.basis.specs.Triangle.{columnTurn, columnOf, sidesTurn, triangleOf}
@@ -27,18 +28,6 @@ use Rattle.closest.specs.Search.{orderIn, still, from, to, slopeAt, roun
 use Rattle.closest.specs.declared.Progress.{Progress}
 
 -- ---- the point
-
-plus-nan : (x : Float) → plain .plus x nan ≡ nan
-unfolding add
-plus-nan nan = refl
-plus-nan (inf s) = refl
-plus-nan (fin s m e) = refl
-
-times-nan : (x : Float) → plain .times x nan ≡ nan
-unfolding mul
-times-nan nan = refl
-times-nan (inf s) = refl
-times-nan (fin s m e) = refl
 
 -- the last of the four basis values is t less a knot, times something
 last-value : (u : List Float) (i : ℕ) → at2 plain (derivativesOf plain u i nan 2) 0 3 ≡ nan
@@ -123,7 +112,7 @@ module _ (c : Shape Float) (p : Vector Float) where
         ap isNan
         (ap (λ (i : ℕ). rounds i start .t) (sym n) ∙ ap (λ (s : Progress). s .t) (spin-more unfinished (roundOf c p) k (30 - k) start) ∙ rounds-nan (30 - k) (rounds k start) met)
 
-    pub nan-ends-in-15 : finite (p .x) ≡ true → finite (p .y) ≡ true → firstOf (searchRules c p) ≡ refusal 15
+    pub nan-ends-in-15 : finite (p .x) ≡ true → finite (p .y) ≡ true → firstOf (searchRules c p []) ≡ refusal 15
     nan-ends-in-15 x y =
         row-passes (row 11 (not (finite (p .x)) || not (finite (p .y)))) _ (rw (x, y))
         ∙ row-applies (row 15 (not (samplesFine c p) || isNan (closestOf c p))) [] (rw last-nan (or-true (not (samplesFine c p))))

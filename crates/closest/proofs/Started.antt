@@ -4,25 +4,23 @@ use mathlib.Core.Bool.{true, not, _||_}
 use mathlib.Core.List.{List, [], _∷_, _++_}
 use Prim.Native.Nat.{ℕ}
 use borrow.Author.Tests.{not-false}
-use lib.Dec.{T}
 use lib.Ieee.{Float, isNan}
 use lib.Ieee.Scale.{finite}
 use Rattle.meaning.specs.Scalar.{plain}
 use Rattle.meaning.specs.Table.{at1}
 use Rattle.meaning.proofs.Tests.{or-left}
 use Rattle.refusal.specs.Refusals.{row}
-use Rattle.refusal.proofs.Rows.{Passed, number-of, numbered, row-passed, both-pass}
+use Rattle.refusal.proofs.Rows.{Passed, number-of, row-passed, both-pass}
 use Rattle.outcome.specs.Told.{Values, told, telling}
 use Rattle.outcome.specs.declared.Told.the-variants.{Is}
 use Rattle.outcome.proofs.Doors.{passes-true}
-use Rattle.knots.specs.declared.Form.the-variants.{Control}
 use Rattle.plane.specs.Vector.{Vector}
 use Rattle.shape.specs.Shape.{Shape}
 use Rattle.shape.specs.Offered.{Offered, inSlices}
-use Rattle.shape.proofs.Trusted.{numbered-shape}
-use Rattle.shape.proofs.Handles.{numbered-handles}
+use Rattle.shape.proofs.Sound.{Sound, slices-sound}
 use Rattle.curve.specs.declared.Curve.{Curve}
 use Rattle.curve.specs.Record.{byRecord}
+use Rattle.curve.proofs.Recheck.{record-sound}
 use Rattle.closest.specs.Nearest.{firstNearest}
 use Rattle.closest.specs.Search.{samplesIn, distanceAt, samplesFine, nearestSample, newtonFrom, closestOf, searchRules, closestAnswer}
 use Rattle.closest.proofs.Least.{IsFirst, first-nearest}
@@ -33,24 +31,25 @@ pub record FromNearest (c : Shape Float) (p : Vector Float) (t : Float) : Type 0
   pub nearest : IsFirst (distanceAt c p) (samplesIn c) k
   pub rounds : t ≡ newtonFrom c p (at1 plain (samplesIn c) k)
 
-module _ (who : Offered) (p : Vector Float) (t : Float) (n : T (numbered (who .rules))) (e : told (Is t) ≡ closestAnswer who p) where
+module _ (who : Offered) (p : Vector Float) (t : Float) (n : Sound who) (e : told (Is t) ≡ closestAnswer who p) where
   abbrev c : Shape Float
   c = who .shape
 
-  passed : Passed (who .rules ++ searchRules c p)
+  passed : Passed (who .till11 ++ searchRules c p (who .from17))
   unfolding closestAnswer telling
   passed = number-of (sym (ap (λ (v : Values). v .refusal) e))
 
   all-fine : samplesFine c p ≡ true
   all-fine =
-      let search = both-pass (who .rules) (searchRules c p) n passed .1 in
-      let last = row-passed 10 (not (finite (p .x)) || not (finite (p .y))) (row 15 (not (samplesFine c p) || isNan (closestOf c p)) ∷ []) search .1 in
+      let search = both-pass (who .till11) (searchRules c p (who .from17)) (n .early) passed .1 in
+      let stored = row-passed 10 (not (finite (p .x)) || not (finite (p .y))) _ search .1 in
+      let last = both-pass (who .from17) (row 15 (not (samplesFine c p) || isNan (closestOf c p)) ∷ []) (n .late) stored .1 in
       not-false (samplesFine c p) (or-left (not (samplesFine c p)) (isNan (closestOf c p)) (row-passed 14 _ [] last .0))
 
   is-closest : t ≡ closestOf c p
   unfolding closestAnswer telling
   is-closest =
-      let v : (t ∷ []) ≡ closestOf c p ∷ [] = rw (passes-true (who .rules ++ searchRules c p) passed) at (ap (λ (v : Values). v .values) e) in
+      let v : (t ∷ []) ≡ closestOf c p ∷ [] = rw (passes-true (who .till11 ++ searchRules c p (who .from17)) passed) at (ap (λ (v : Values). v .values) e) in
       cc
 
   from-nearest : FromNearest c p t
@@ -59,8 +58,8 @@ module _ (who : Offered) (p : Vector Float) (t : Float) (n : T (numbered (who .r
 
 -- whatever `closest` and `closest_slices` answer
 pub record-closest : (c : Curve) (p : Vector Float) (t : Float) → told (Is t) ≡ closestAnswer (byRecord c) p → FromNearest (byRecord c .shape) p t
-record-closest c p t e = from-nearest (byRecord c) p t (numbered-shape _ _) e
+record-closest c p t e = from-nearest (byRecord c) p t (record-sound c) e
 
 pub slices-closest : (coords ks : List Float) (p : Vector Float) (t : Float) → told (Is t) ≡ closestAnswer (inSlices coords ks) p
     → FromNearest (inSlices coords ks .shape) p t
-slices-closest coords ks p t e = from-nearest (inSlices coords ks) p t (numbered-handles Control _ true _) e
+slices-closest coords ks p t e = from-nearest (inSlices coords ks) p t (slices-sound coords ks) e

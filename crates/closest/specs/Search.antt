@@ -95,11 +95,11 @@ module _ (c : Shape Float) (p : Vector Float) where
   unfoldable pub closestOf : Float
   closestOf = newtonFrom nearestSample
 
-  abbrev pub searchRules : List Row
-  searchRules =
+  -- 11 is the point's, too, and so comes before 17
+  abbrev pub searchRules : List Row → List Row
+  searchRules from17 =
       row 11 (not (finite (p .x)) || not (finite (p .y)))
-      ∷ row 15 (not samplesFine || isNan closestOf)
-      ∷ []
+      ∷ (from17 ++ (row 15 (not samplesFine || isNan closestOf) ∷ []))
 
 unfoldable pub closestAnswer : Offered → Vector Float → Values
-closestAnswer who p = telling (who .rules ++ searchRules (who .shape) p) (closestOf (who .shape) p ∷ [])
+closestAnswer who p = telling (who .till11 ++ searchRules (who .shape) p (who .from17)) (closestOf (who .shape) p ∷ [])

@@ -1,3 +1,2 @@
--- What the build answers, and that every question lets it through.
-pub mod Answers
+-- What is built, every question lets through.
 pub mod Rechecked

@@ -5,8 +5,11 @@ use mathlib.Core.Bool.{Bool, true, false}
 use mathlib.Core.List.{List}
 use Prim.Native.Nat.{ℕ, _+_, _≤_}
 use native.Mathlib.Omega.{arith}
+use borrow.Author.Tests.{not-false}
 use lib.ListN.{take, length-take}
 use lib.Ieee.{Float}
+use lib.Ieee.Scale.{finite}
+use Rattle.meaning.proofs.Tests.{and-right}
 use Rattle.refusal.specs.Refusals.{firstOf}
 use Rattle.refusal.proofs.Rows.{Passed, number-of}
 use Rattle.knots.specs.declared.Form.the-variants.{Control}
@@ -20,10 +23,11 @@ use Rattle.shape.specs.Rules.{countedKnots, handleRules}
 use Rattle.shape.proofs.Trusted.{counted-all, all-tame}
 use Rattle.shape.proofs.Handles.{handles-passed-knots, handles-tame, given-front}
 use Rattle.shape.proofs.Sound.{others-finite}
-use Rattle.curve.specs.Record.{byRecord}
+use Rattle.curve.specs.Record.{shapeIn, byRecord}
 use Rattle.curve.specs.Build.{storedKnots, controlCurve}
+use Rattle.curve.proofs.Recheck.{measured-passes}
 use Rattle.curve.proofs.Builds.{build-parts}
-use Rattle.curve.proofs.Assembled.{room-of}
+use Rattle.curve.proofs.Roomy.{room-of}
 use Rattle.control.specs.Control.{controlFine}
 use Rattle.control.specs.Rules.{controlRules}
 
@@ -34,7 +38,10 @@ module _ (coords : List Float) (given : Bool) (ks : List Float) (short : Bool) (
   n = pointsIn coords
 
   handles : Passed (handleRules Control coords given ks)
-  handles = build-parts Control coords given ks short (controlFine coords given ks) passed .0
+  handles = build-parts Control coords given ks short _ passed .0
+
+  measured : finite (controlCurve coords given ks .length) ≡ true
+  measured = and-right (controlFine coords given ks) _ (not-false _ (build-parts Control coords given ks short _ passed .2))
 
   room : (4 ≤ n) × (n ≤ 66)
   room = room-of coords given ks handles
@@ -57,4 +64,5 @@ module _ (coords : List Float) (given : Bool) (ks : List Float) (short : Bool) (
   pub control-rechecked : Passed (byRecord (controlCurve coords given ks) .rules)
   control-rechecked =
       let z = number-of (ap (λ (l : List Float). firstOf (knotRules Control n true l)) counted) ∙ knots-pass in
-      number-of (sym (all-tame (n + 4) (byRecord (controlCurve coords given ks) .shape) refl z (coordinates 0 (omega arith)) (coordinates 1 (omega arith)))) ∙ z
+      let shape = shapeIn (controlCurve coords given ks) in
+      measured-passes (n + 4) shape (number-of (sym (all-tame (n + 4) shape refl z (coordinates 0 (omega arith)) (coordinates 1 (omega arith)))) ∙ z) measured

@@ -6,6 +6,6 @@ use Rattle.outcome.specs.Outcome.{someWild}
 use Rattle.shape.specs.Shape.{pointsIn}
 use Rattle.curve.specs.Build.{storedKnots}
 
--- every number that is stored is finite: rule 11 has judged the coordinates, so the knots are left
+-- every number that is stored beside the length is finite: rule 11 has judged the coordinates, so the knots are left
 abbrev pub controlFine : List Float → Bool → List Float → Bool
 controlFine coords given ks = not (someWild (storedKnots (pointsIn coords) given ks) 70)

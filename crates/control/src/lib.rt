@@ -3,6 +3,7 @@ ghost use mathlib.Core.Path.{_≡_};
 ghost use Rattle.curve.specs.Build.{building, controlCurve};
 ghost use Rattle.control.specs.Rules.{controlRules};
 use curve::Built;
+use knots::Form;
 
 // The curve of control points x, y in turn, over the knots if any are given, else over uniform ones. `short` tells whether a slice that the
 // caller has for the answer is short, which is 14.
@@ -11,15 +12,17 @@ pub fn build_control(coords: &[f64], given: bool, knots: &[f64], short: bool) ->
     ensures { λ r. ⌜ r
         ≡ building (controlRules (now (coords .entry)) given (now (knots .entry)) short) (controlCurve (now (coords .entry)) given (now (knots .entry))) ⌝ }
 {
-    let b = curve::assemble(coords, given, knots);
-    if b.refusal.number != 0 {
-        return b;
+    let r = shape::check_handles(Form::Control, coords, given, knots);
+    if r.number != 0 {
+        return curve::refused(r);
     }
     if short {
         return curve::refused(refusal::by(14));
     }
-    if outcome::first_wild(&b.curve.knots, 70) < 70 {
-        return curve::refused(refusal::by(15));
-    }
-    b
+    let s = curve::in_rooms(coords, given, knots);
+    let xs = s.xs;
+    let ys = s.ys;
+    let u = s.knots;
+    let wild = outcome::first_wild(&u, 70) < 70;
+    curve::measured(s.points, xs, ys, u, !wild)
 }

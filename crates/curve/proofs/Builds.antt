@@ -2,7 +2,8 @@
 use mathlib.Core.Path.{_≡_, sym, ap, _∙_}
 use mathlib.Core.Bool.{Bool, true, false, not}
 use mathlib.Core.List.{List, [], _∷_, _++_}
-use Prim.Native.Nat.{ℕ}
+use Prim.Native.Nat.{ℕ, suc}
+use native.Mathlib.Nat.{suc-ne-zero}
 use lib.Dec.{T}
 use lib.Ieee.{Float}
 use Rattle.refusal.specs.declared.Refusal.{Refusal}
@@ -17,6 +18,7 @@ use Rattle.curve.specs.declared.Curve.{Curve}
 use Rattle.curve.specs.declared.Built.{Built}
 use Rattle.curve.specs.Record.{emptyCurve}
 use Rattle.curve.specs.Build.{building, roomRules, buildRules}
+use Rattle.curve.specs.Making.{lastRule}
 
 abbrev pub unbuilt : Refusal → Built
 unbuilt r = record { refusal = r; curve = emptyCurve }
@@ -50,6 +52,37 @@ module _ (rules : List Row) (c : Curve) where
   unfolding building
   built-curve e z = ap (λ (x : Built). x .curve) e ∙ rw (passes-true rules (built-passed e z))
 
+-- an equation of what is built as a record, so that a law finds the rules and the curve in it
+pub record Makes (rules : List Row) (c : Curve) (b : Built) : Type 0 where
+  pub is : b ≡ building rules c
+
+module _ {c : Curve} where
+  pub makes : {rules : List Row} {b : Built} → Makes rules c b → b ≡ building rules c
+  makes a = a .is
+
+  -- rules that say the same
+  same-making : {a b : List Row} {x : Built} → firstOf b ≡ firstOf a → Makes a c x → Makes b c x
+  unfolding building
+  same-making e m = record { is = rw e (m .is) }
+
+  -- a row applies, and one does not
+  pub stop-made : (n : ℕ) {b : Bool} {rs : List Row} {x : Built} → x ≡ unbuilt (refusal (suc n)) → b ≡ true → Makes (row (suc n) b ∷ rs) c x
+  stop-made n {b} {rs} e h = record { is = e ∙ built-refused _ c (sym (row-applies (row (suc n) b) rs h)) (suc-ne-zero n) }
+
+  pub pass-made : (n : ℕ) {b : Bool} {rs : List Row} {x : Built} → b ≡ false → Makes rs c x → Makes (row n b ∷ rs) c x
+  pass-made n {b} {rs} h m = same-making (row-passes (row n b) rs h) m
+
+  -- no row is left
+  pub done-made : {r : Refusal} → r ≡ none → Makes [] c (made r c)
+  done-made e = record { is = built-made [] c (e ∙ sym no-rows) (number-of e) }
+
+  -- other rules come first
+  pub refused-made : (rules rs : List Row) {r : Refusal} {x : Built} → r ≡ firstOf rules → (r .number ≡ 0 → ⊥) → x ≡ unbuilt r → Makes (rules ++ rs) c x
+  refused-made rules rs e h q = record { is = q ∙ built-refused _ c (e ∙ sym (first-decides rules rs (λ z. h (number-of e ∙ z)))) h }
+
+  pub after-made : (rules : List Row) {rs : List Row} {x : Built} → T (numbered rules) → Passed rules → Makes rs c x → Makes (rules ++ rs) c x
+  after-made rules {rs} t z m = same-making (second-decides rules rs t z) m
+
 -- ---- the rules of a build, from its tests
 
 pub numbered-room : (form : Form) (coords : List Float) (given : Bool) (ks : List Float) (short : Bool) → T (numbered (roomRules form coords given ks short))
@@ -63,16 +96,10 @@ module _ (form : Form) (coords : List Float) (given : Bool) (ks : List Float) (s
   room-refused e h = e ∙ sym (first-decides (roomRules form coords given ks short) _ (λ z. h (number-of e ∙ z)))
 
   -- none of them does
-  module _ (passed : Passed (roomRules form coords given ks short)) where
-    left : firstOf (buildRules form coords given ks short fine) ≡ firstOf (row 15 (not fine) ∷ [])
-    unfolding buildRules
-    left = second-decides (roomRules form coords given ks short) _ (numbered-room form coords given ks short) passed
-
-    pub not-fine : fine ≡ false → refusal 15 ≡ firstOf (buildRules form coords given ks short fine)
-    not-fine h = sym (left ∙ row-applies (row 15 (not fine)) [] (ap not h))
-
-    pub all-fine : fine ≡ true → none ≡ firstOf (buildRules form coords given ks short fine)
-    all-fine h = sym (left ∙ row-passes (row 15 (not fine)) [] (ap not h) ∙ no-rows)
+  pub build-left : (c : Curve) {b : Built} → Passed (roomRules form coords given ks short) → b ≡ building (lastRule fine) c
+      → b ≡ building (buildRules form coords given ks short fine) c
+  unfolding buildRules
+  build-left c z e = makes (after-made (roomRules form coords given ks short) (numbered-room form coords given ks short) z (record { is = e }))
 
 -- the rules 1 to 14
 module _ (form : Form) (coords : List Float) (given : Bool) (ks : List Float) (short : Bool) {r : Refusal} (known : r ≡ firstOf (handleRules form coords given ks)) where

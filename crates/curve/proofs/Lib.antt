@@ -1,3 +1,5 @@
--- What a build answers, and curves assembled from slices.
+-- The rules of a record, and what a build answers.
+pub mod Recheck
 pub mod Builds
-pub mod Assembled
+pub mod Roomy
+pub mod Put

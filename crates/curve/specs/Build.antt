@@ -16,7 +16,7 @@ use Rattle.curve.specs.Record.{emptyCurve, curveOver}
 unfoldable pub building : List Row → Curve → Built
 building rules c = record { refusal = firstOf rules; curve = cond (passes rules) c emptyCurve }
 
--- The rules of a build: those for the handles, then that no lent slice is short, then that every number which is stored is finite.
+-- The rules of a build: those for the handles, then that no lent slice is short, then that every number which is stored is finite, the length too.
 abbrev pub roomRules : Form → List Float → Bool → List Float → Bool → List Row
 roomRules form coords given ks short = handleRules form coords given ks ++ (row 14 short ∷ [])
 

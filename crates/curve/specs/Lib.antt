@@ -1,3 +1,4 @@
 -- The curve record, and what a build of one answers.
 pub mod Record
 pub mod Build
+pub mod Making

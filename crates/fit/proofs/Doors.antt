@@ -11,7 +11,7 @@ use lib.Ieee.{Float}
 use lib.Ieee.Scale.{finite}
 use Rattle.meaning.specs.Scalar.{plain}
 use Rattle.meaning.specs.Table.{at1}
-use Rattle.meaning.proofs.Tests.{no}
+use Rattle.meaning.proofs.Tests.{no, and-left, and-right}
 use Rattle.refusal.specs.Refusals.{firstOf}
 use Rattle.refusal.proofs.Rows.{Passed, number-of}
 use Rattle.knots.specs.declared.Form.the-variants.{Control, Fit}
@@ -24,7 +24,8 @@ use Rattle.outcome.specs.Outcome.{someWild}
 use Rattle.outcome.proofs.Wild.{none-wild}
 use Rattle.shape.specs.Shape.{pointsIn}
 use Rattle.shape.proofs.Trusted.{counted-all, all-tame}
-use Rattle.curve.specs.Record.{byRecord}
+use Rattle.curve.specs.Record.{shapeIn, byRecord}
+use Rattle.curve.proofs.Recheck.{measured-passes}
 use Rattle.curve.proofs.Builds.{build-parts}
 use Rattle.fit.specs.Parameters.{fitParameter}
 use Rattle.fit.specs.Fit.{knotsThrough, rowsThrough, solutionThrough, curveThrough, fitFine}
@@ -64,18 +65,22 @@ module _ (q : List Float) (two : 2 ≤ pointsIn q) (room : pointsIn q ≤ 64) (f
         ap finite (y-at plain (n + 2) (rowsThrough q) solvable (omega arith) r l) ∙ f .1,
       )
 
-  pub curve-rechecked : Passed (byRecord (curveThrough q) .rules)
+  pub curve-rechecked : finite (curveThrough q .length) ≡ true → Passed (byRecord (curveThrough q) .rules)
   unfolding curveThrough
-  curve-rechecked =
+  curve-rechecked measured =
       let counted = counted-all (n + 2) (n + 2 + 4) (knotsThrough q) (omega (arith, fit-knots-length q n)) in
       let z = number-of (ap (λ (l : List Float). firstOf (knotRules Control (n + 2) true l)) counted) ∙ fit-knots-pass q n two room tame rises in
-      number-of (sym (all-tame (n + 2 + 4) (byRecord (curveThrough q) .shape) refl z
+      let shape = shapeIn (curveThrough q) in
+      measured-passes (n + 2 + 4) shape
+      (number-of (sym (all-tame (n + 2 + 4) shape refl z
       (none-wild (solutionThrough q .xs) (n + 2) (λ r l. answered r l .0)) (none-wild (solutionThrough q .ys) (n + 2) (λ r l. answered r l .1))))
-      ∙ z
+      ∙ z)
+      measured
 
 -- what the rules of the build let through
 pub fit-rechecked : (q : List Float) (given : Bool) (ks : List Float) (short : Bool) → Passed (fitRules q given ks short) → Passed (byRecord (curveThrough q) .rules)
 fit-rechecked q given ks short h =
-    let parts = build-parts Fit q given ks short (fitFine q) h in
+    let parts = build-parts Fit q given ks short _ h in
     let n = fit-room q given ks (parts .0) in
-    curve-rechecked q (n .0) (n .1) (not-false (fitFine q) (parts .2))
+    let fine = not-false _ (parts .2) in
+    curve-rechecked q (n .0) (n .1) (and-left (fitFine q) _ fine) (and-right (fitFine q) _ fine)

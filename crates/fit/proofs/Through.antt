@@ -1,16 +1,16 @@
 -- From what the code holds to the definition: the arrays are the definition's parameters and knots, and where these are finite the span that the
 -- search finds is the rules', so that the rows, the verdicts and the solution are the definition's. Assumes nothing.
-use mathlib.Core.Path.{_≡_, sym, ap, _∙_}
+use mathlib.Core.Path.{_≡_, refl, sym, ap, _∙_}
 use mathlib.Core.Bool.{Bool, true, false, not, _&&_}
 use mathlib.Core.List.{List, [], flatten}
 use Prim.Native.Nat.{ℕ, _+_, _-_, _*_, _≤_}
 use native.Mathlib.Omega.{arith}
-use borrow.Author.Tests.{not-false, eqb-true}
+use borrow.Author.Tests.{eqb-true}
 use lib.ListN.{length, drop}
 use lib.Ieee.{Float, nan}
 use Rattle.meaning.specs.Scalar.{Ops, plain}
 use Rattle.meaning.specs.Table.{at1}
-use Rattle.meaning.proofs.Tests.{by-two}
+use Rattle.meaning.proofs.Tests.{by-two, no}
 use Rattle.meaning.proofs.Filling.{Filled}
 use Rattle.refusal.specs.Refusals.{Row, firstOf, passes}
 use Rattle.refusal.proofs.Rows.{Passed, row-passed}
@@ -30,11 +30,12 @@ use Rattle.curve.specs.declared.Curve.{Curve}
 use Rattle.curve.specs.declared.Built.{Built}
 use Rattle.curve.specs.Record.{curveOver}
 use Rattle.curve.specs.Build.{building}
+use Rattle.curve.specs.Making.{measuring}
 use Rattle.fit.specs.Parameters.{stepAt, parameterAt, knotsBy, fitParameter}
 use Rattle.fit.specs.System.{fitRows}
 use Rattle.fit.specs.Fit.{controlsFor, knotsThrough, rowsThrough, solutionThrough, curveThrough, fitFine, making}
 use Rattle.fit.specs.Fitting.{workFor}
-use Rattle.fit.specs.Stored.{foundFitRows, StoredAll, lastRule, curveWith, interpolated}
+use Rattle.fit.specs.Stored.{foundFitRows, StoredAll, curveWith, interpolated}
 use Rattle.fit.proofs.Sums.{parameter-cong, knots-cong}
 use Rattle.fit.proofs.Rows.{fit-rows-cong, found-shaped}
 use Rattle.fit.proofs.Rising.{fit-span}
@@ -115,13 +116,16 @@ module _ (q p u : List Float) (two : 2 ≤ pointsIn q) (few : pointsIn q ≤ 64)
         let rows = hr ∙ ap (λ (M : List (List Float)). allFine plain (flatten M)) (rows-are tame) in
         rw tame (λ i. rows i && tame-solution tame i .fine)))
 
-    built-with : curveWith (controlsFor q) u stored s ≡ building (lastRule (fitFine q)) (curveThrough q)
+    same-curve : fitFine q ≡ true → curveOver (controlsFor q) u (s .xs) (s .ys) ≡ curveThrough q
     unfolding curveThrough
+    same-curve fine = let v = tame-solution (fine-tame q fine) in λ i. curveOver (controlsFor q) (knots-are i) (v i .xs) (v i .ys)
+
+    -- a curve that is not fine is refused, whatever it is
+    built-with : curveWith (controlsFor q) u stored s ≡ measuring (fitFine q) (curveThrough q)
     built-with =
-        building-as _ _ _ _ (ap (λ (t : Bool). firstOf (lastRule t)) verdict)
-        (λ h.
-        let v = tame-solution (fine-tame q (not-false (fitFine q) (row-passed 14 _ [] h .0))) in
-        λ i. curveOver (controlsFor q) (knots-are i) (v i .xs) (v i .ys))
+        ap (λ (t : Bool). measuring t (curveOver (controlsFor q) u (s .xs) (s .ys))) verdict
+        ∙ by-two (fitFine q) (λ fine. ap (measuring (fitFine q)) (same-curve fine))
+        (λ wild. rw wild (building-as _ _ _ _ refl (λ h. no (sym (row-passed 14 _ [] h .0)))))
 
   -- the buffer was filled and solved
   pub solved-through : {w w₁ w₂ : List Float} {stored : Bool} {s : Solved} {b : Built} → workFor q ≤ length w → length w₁ ≡ length w

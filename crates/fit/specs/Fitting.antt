@@ -1,10 +1,11 @@
 -- Inner: what this crate's build answers; the crate `build` says it for every form.
-use mathlib.Core.Bool.{Bool}
+use mathlib.Core.Bool.{Bool, _&&_}
 use mathlib.Core.List.{List}
 use Prim.Native.Nat.{ℕ, _+_, _*_}
 use lib.ListN.{length}
 use lib.Dec.{ltb}
 use lib.Ieee.{Float}
+use lib.Ieee.Scale.{finite}
 use Rattle.refusal.specs.Refusals.{Row}
 use Rattle.knots.specs.declared.Form.the-variants.{Fit}
 use Rattle.curve.specs.Build.{building, buildRules}
@@ -20,7 +21,7 @@ workShort q work = ltb (length work) (workFor q)
 
 -- The rules, 14 of which is that a lent slice is short: the work buffer, or one for the answer.
 abbrev pub fitRules : List Float → Bool → List Float → Bool → List Row
-fitRules q given ks short = buildRules Fit q given ks short (fitFine q)
+fitRules q given ks short = buildRules Fit q given ks short (fitFine q && finite (curveThrough q .length))
 
 -- the fit
 abbrev pub fitting : List Float → Bool → List Float → Bool → List Float → Making

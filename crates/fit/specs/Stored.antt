@@ -2,7 +2,7 @@
 -- and what is answered past the rules 1 to 14. The span is the one that the search finds; where the knots do not fall it is the rules'.
 use mathlib.Core.Path.{_≡_}
 use mathlib.Core.Bool.{Bool, not, _&&_}
-use mathlib.Core.List.{List, [], _∷_, flatten}
+use mathlib.Core.List.{List, flatten}
 use Prim.Native.Nat.{ℕ, _+_}
 use lib.ListN.{set}
 use lib.Ieee.{Float}
@@ -11,7 +11,6 @@ use Rattle.meaning.specs.Table.{at1}
 use Rattle.meaning.specs.Loops.{turns, run}
 use Rattle.span.specs.Counting.{countedOf}
 use Rattle.plane.specs.Vector.{Vector}
-use Rattle.refusal.specs.Refusals.{Row, row}
 use Rattle.solve.specs.declared.Solved.{Solved}
 use Rattle.solve.specs.Rows.{flat, ofRows}
 use Rattle.solve.specs.Stored.{allFine}
@@ -19,7 +18,7 @@ use Rattle.solve.specs.Outcome.{workOf}
 use Rattle.outcome.specs.Outcome.{someWild}
 use Rattle.curve.specs.declared.Built.{Built}
 use Rattle.curve.specs.Record.{curveOver}
-use Rattle.curve.specs.Build.{building}
+use Rattle.curve.specs.Making.{measuring}
 use Rattle.fit.specs.System.{rowOf, fitRow, fitRows}
 use Rattle.fit.specs.Fit.{controlsFor, curveThrough, fitFine, Making, making}
 
@@ -61,13 +60,10 @@ pub record StoredAll (us ps q : List Float) (n : ℕ) (w w′ : List Float) (fin
 
 -- ---- past the rules 1 to 14
 
-abbrev pub lastRule : Bool → List Row
-lastRule fine = row 15 (not fine) ∷ []
-
 -- the curve of m control points that a solve answered, with the knots us and the verdict on the rows
 abbrev pub curveWith : ℕ → List Float → Bool → Solved → Built
-curveWith m us stored s = building (lastRule (not (someWild us 70) && (stored && s .fine))) (curveOver m us (s .xs) (s .ys))
+curveWith m us stored s = measuring (not (someWild us 70) && (stored && s .fine)) (curveOver m us (s .xs) (s .ys))
 
 -- the curve through the points q
 abbrev pub interpolated : List Float → List Float → Making
-interpolated q work = making (building (lastRule (fitFine q)) (curveThrough q)) (workOf (controlsFor q) work)
+interpolated q work = making (measuring (fitFine q) (curveThrough q)) (workOf (controlsFor q) work)

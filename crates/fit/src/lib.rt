@@ -16,7 +16,6 @@ ghost use Rattle.fit.specs.Fit.{making};
 ghost use Rattle.fit.specs.Fitting.{workFor, workShort, fitting};
 ghost use Rattle.fit.specs.Stored.{fourPut, sidesPut, foundRow, foundFitRow, Stored, StoredAt, StoredAll, curveWith, interpolated};
 use curve::Built;
-use curve::Curve;
 use knots::Form;
 use plane::P2;
 use solve::Solved;
@@ -229,25 +228,13 @@ fn fill<'a>(w: &mut [f64], u: &'a [f64; 70], p: &'a [f64; 64], q: &'a [f64], n: 
 
 // The curve of m control points that were solved for, with the knots u, or refusal 15. `stored` is the verdict on the system.
 fn curve_with(m: usize, u: [f64; 70], stored: bool, s: Solved) -> Built
-    requires { ⌜ m ≤ 66 ⌝ }
     ensures { λ r. ⌜ r ≡ curveWith m u stored s ⌝ }
 {
     let wild = outcome::first_wild(&u, 70) < 70;
-    if !number::both(!wild, number::both(stored, s.fine)) {
-        return curve::refused(refusal::by(15));
-    }
+    let fine = number::both(!wild, number::both(stored, s.fine));
     let xs = s.xs;
     let ys = s.ys;
-    Built {
-        refusal: refusal::by(0),
-        curve: Curve {
-            points: m,
-            knot_count: m + 4,
-            xs,
-            ys,
-            knots: u,
-        },
-    }
+    curve::measured(m, xs, ys, u, fine)
 }
 
 // The curve through points that the rules 1 to 14 let through, or refusal 15.

@@ -7,6 +7,7 @@ pub mod Every
 pub mod Filling
 pub mod Pasting
 pub mod Order
+pub mod Nans
 pub mod Sizes
 pub mod Whole
 pub mod Zeros

@@ -1,3 +1,2 @@
 -- The polygon's length and the domain.
 pub mod Measure
-pub mod Judged

@@ -11,7 +11,7 @@ use Rattle.refusal.specs.Refusals.{row, none}
 use Rattle.outcome.specs.Told.{Values, telling}
 use Rattle.shape.specs.Shape.{Shape}
 use Rattle.shape.specs.Offered.{Offered}
-use Rattle.polygon.specs.Polygon.{lengthOf}
+use Rattle.curve.specs.Record.{lengthIn}
 use Rattle.measure.specs.declared.Interval.{Interval}
 use Rattle.measure.specs.declared.Interval.the-variants.{Between, Refused}
 
@@ -19,7 +19,7 @@ use Rattle.measure.specs.declared.Interval.the-variants.{Between, Refuse
 unfoldable pub lengthAnswer : Offered → Values
 lengthAnswer who =
     let c = who .shape in
-    let length = lengthOf plain (c .xs) (c .ys) (c .n) in
+    let length = lengthIn c in
     telling (who .rules ++ (row 15 (not (finite length)) ∷ [])) (length ∷ [])
 
 -- the first knot and the last

@@ -1,18 +1,13 @@
 // What is measured of a whole curve: the length of its polygon, and its domain. A curve is checked again, whoever made it.
 ghost use mathlib.Core.Path.{_≡_};
-ghost use mathlib.Core.Bool.{true};
-ghost use mathlib.Core.List.{[]};
+ghost use mathlib.Core.List.{[], _∷_};
 ghost use Prim.Native.Nat.{_+_, _<_};
 ghost use lib.ListN.{length};
-ghost use Rattle.meaning.specs.Scalar.{plain};
-ghost use Rattle.outcome.specs.Told.{told};
+ghost use Rattle.outcome.specs.Told.{told, telling};
 ghost use Rattle.shape.specs.Offered.{inSlices};
 ghost use Rattle.shape.specs.Trusting.{trusting};
 ghost use Rattle.curve.specs.Record.{byRecord};
-ghost use Rattle.polygon.specs.Polygon.{lengthBy};
-ghost use Rattle.polygon.specs.Stepped.{cornerAt, reaches};
 ghost use Rattle.measure.specs.Measure.{lengthAnswer, interval, domainAnswer};
-ghost use Rattle.measure.specs.Judged.{lengthTold};
 use curve::Curve;
 use knots::Form;
 use outcome::Told;
@@ -24,18 +19,6 @@ pub enum Interval {
     Refused(Refusal),
 }
 
-// The length of the control polygon whose n corners stand step numbers apart.
-fn answer_length<'a>(n: usize, xs: &'a [f64], ys: &'a [f64], step: usize) -> Told
-    requires { ⌜ reaches n step (now xs) (now ys) ≡ true ⌝ }
-    ensures { λ r. ⌜ told r ≡ lengthTold (lengthBy plain (cornerAt step (now (xs .entry)) (now (ys .entry))) n) ⌝ }
-{
-    let length = polygon::length(n, xs, ys, step);
-    if !number::is_finite(length) {
-        return Told::Refused(refusal::by(15));
-    }
-    Told::Is(length)
-}
-
 // The first knot and the last: the control points do not matter.
 fn answer_domain(n: usize, u: &[f64]) -> Interval
     requires { ⌜ n + 3 < length (now u) ⌝ }
@@ -44,16 +27,17 @@ fn answer_domain(n: usize, u: &[f64]) -> Interval
     Interval::Between(u[0], u[n + 3])
 }
 
-// The length of the control polygon.
+// The length of the control polygon, which is stored; the check sums it afresh.
 // Corresponds to spline.rs: Curve::polygon_length.
 pub fn length(c: Curve) -> Told
-    ensures { λ r. ⌜ told r ≡ lengthAnswer (byRecord c) ⌝ }
+    ensures answer { λ r. ⌜ told r ≡ lengthAnswer (byRecord c) ⌝ }
+    ensures stored { λ r. ⌜ told r ≡ telling (byRecord c .rules) (c .length ∷ []) ⌝ }
 {
-    let r = shape::check(c.points, c.knot_count, &c.xs, &c.ys, &c.knots);
+    let r = curve::check(c.points, c.knot_count, c.length, &c.xs, &c.ys, &c.knots);
     if r.number != 0 {
         return Told::Refused(r);
     }
-    answer_length(c.points, &c.xs, &c.ys, 1)
+    Told::Is(c.length)
 }
 
 // The same for a curve in slices: control points x, y in turn, and knots.
@@ -64,7 +48,11 @@ pub fn length_slices(coords: &[f64], knots: &[f64]) -> Told
     if r.number != 0 {
         return Told::Refused(r);
     }
-    answer_length(coords.len() / 2, coords, &coords[1..], 2)
+    let length = polygon::length_in_turn(coords);
+    if !number::is_finite(length) {
+        return Told::Refused(refusal::by(15));
+    }
+    Told::Is(length)
 }
 
 // The first knot and the last.
@@ -72,7 +60,7 @@ pub fn length_slices(coords: &[f64], knots: &[f64]) -> Told
 pub fn domain(c: Curve) -> Interval
     ensures { λ r. ⌜ interval r ≡ domainAnswer (byRecord c) ⌝ }
 {
-    let r = shape::check(c.points, c.knot_count, &c.xs, &c.ys, &c.knots);
+    let r = curve::check(c.points, c.knot_count, c.length, &c.xs, &c.ys, &c.knots);
     if r.number != 0 {
         return Interval::Refused(r);
     }

@@ -1,6 +1,7 @@
 // What the curve code asks of a double, by comparisons: each function answers for every bit pattern. And two tests joined.
 ghost use mathlib.Core.Path.{_≡_};
 ghost use mathlib.Core.Bool.{_&&_, _||_};
+ghost use lib.Ieee.{binary64, toBits};
 ghost use lib.Ieee.Scale.{finite};
 ghost use Rattle.meaning.specs.Number.{sizeOf, smaller, atLeast, clampOf};
 ghost use Rattle.number.specs.Magnitude.{magnitudeOf};
@@ -72,6 +73,16 @@ pub fn clamp(x: f64, lo: f64, hi: f64) -> f64
         return hi;
     }
     y
+}
+
+// The bits of x. A NaN has many; this is one of them.
+pub fn bits(x: f64) -> u64
+    ensures { λ r. ⌜ r ≡ toBits binary64 x ⌝ }
+{
+    if x != x {
+        return 0x7ff8_0000_0000_0000;
+    }
+    f64::to_bits(x)
 }
 
 // ---- two tests joined: a value, where the operators of the language are branches

@@ -27,9 +27,9 @@ pub typed : (k : Curve) (vs : List Val) → shadow (row the-type .own k vs) → 
 typed k vs h t d =
     let o = h .1 .1 in
     record {
-      xs = of-field (k .xs) (o .1 .1 .0 .0) (o .1 .1 .0 .1 .1);
-      ys = of-field (k .ys) (o .1 .1 .1 .0 .0) (o .1 .1 .1 .0 .1 .1);
-      knots = of-field (k .knots) (o .1 .1 .1 .1 .0 .0) (o .1 .1 .1 .1 .0 .1 .1);
+      xs = of-field (k .xs) (o .1 .1 .1 .0 .0) (o .1 .1 .1 .0 .1 .1);
+      ys = of-field (k .ys) (o .1 .1 .1 .1 .0 .0) (o .1 .1 .1 .1 .0 .1 .1);
+      knots = of-field (k .knots) (o .1 .1 .1 .1 .1 .0 .0) (o .1 .1 .1 .1 .1 .0 .1 .1);
       parameter = d;
     }
 

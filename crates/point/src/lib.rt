@@ -48,7 +48,7 @@ pub fn evaluate(c: Curve, t: f64, order: usize, out: &mut [f64]) -> Refusal
     ensures hull { λ r. ⌜ InItsHull (byRecord c) t r (now (out .exit)) ⌝ }
     ensures never { λ r. ⌜ NeverRefused (byRecord c) t order (now (out .entry)) r ⌝ }
 {
-    let r = shape::check(c.points, c.knot_count, &c.xs, &c.ys, &c.knots);
+    let r = curve::check(c.points, c.knot_count, c.length, &c.xs, &c.ys, &c.knots);
     if r.number != 0 {
         return r;
     }
@@ -83,7 +83,7 @@ pub fn point_tangent(c: Curve, t: f64, out: &mut [f64]) -> Refusal
     ensures answer { λ r. ⌜ outcome r (now (out .exit)) ≡ tangentAnswer (byRecord c) t (now (out .entry)) ⌝ }
     ensures hull { λ r. ⌜ InItsHull (byRecord c) t r (now (out .exit)) ⌝ }
 {
-    let r = shape::check(c.points, c.knot_count, &c.xs, &c.ys, &c.knots);
+    let r = curve::check(c.points, c.knot_count, c.length, &c.xs, &c.ys, &c.knots);
     if r.number != 0 {
         return r;
     }

@@ -114,7 +114,7 @@ pub fn evaluate_many(
     ensures hull { λ r. ⌜ EachInItsHull (byRecord c) (now (ts .entry)) order r (now (out .exit)) (now (refusals .exit)) ⌝ }
     ensures never { λ r. ⌜ NoneRefused (byRecord c) (now (ts .entry)) order (now (out .entry)) r (now (refusals .exit)) ⌝ }
 {
-    let r = shape::check(c.points, c.knot_count, &c.xs, &c.ys, &c.knots);
+    let r = curve::check(c.points, c.knot_count, c.length, &c.xs, &c.ys, &c.knots);
     if r.number != 0 {
         return r;
     }

@@ -15,7 +15,7 @@ use Rattle.meaning.proofs.Filling.{nth-listed}
 use Rattle.meaning.proofs.Order.{le-not-lt}
 use Rattle.partials.specs.declared.Dv.{Dv}
 use Rattle.partials.specs.Dual.{cstDv, dual}
-use Rattle.refusal.proofs.Rows.{Passed, number-of}
+use Rattle.refusal.proofs.Rows.{Passed}
 use Rattle.knots.specs.declared.Form.the-variants.{Control}
 use Rattle.knots.specs.Rules.{NotFalling}
 use Rattle.knots.proofs.Accepted.{Accepted, accepted}
@@ -27,11 +27,8 @@ use Rattle.shape.specs.Shape.{Shape, pointsIn}
 use Rattle.shape.specs.Rules.{handleRules}
 use Rattle.shape.proofs.Handles.{slices-trusted}
 use Rattle.evaluate.specs.Piece.{fourOf}
-use Rattle.curve.specs.declared.Curve.{Curve}
-use Rattle.curve.specs.declared.Built.{Built}
-use Rattle.curve.specs.Build.{building, storedKnots, controlCurve}
-use Rattle.curve.proofs.Builds.{built-refusal, built-curve}
-use Rattle.curve.proofs.Assembled.{room-of}
+use Rattle.curve.specs.Build.{storedKnots}
+use Rattle.curve.proofs.Roomy.{room-of}
 use Rattle.fit_partials.specs.Variables.{variablesOf}
 use Rattle.residual.specs.declared.Piece.{Piece}
 use Rattle.residual.specs.Curve.{controlShape, spanIn}
@@ -128,20 +125,17 @@ module _ (q : List Float) (given : Bool) (ks : List Float) (passed : Passed (han
 
   -- ---- what the code reads, of knots u that are these
 
-  module _ {b : Built} (e : b ≡ building (handleRules Control q given ks) (controlCurve q given ks)) where
-    pub knots-are : b .curve .knots ≡ us
-    knots-are = ap (λ (k : Curve). k .knots) (built-curve _ _ e (number-of (built-refusal _ _ e) ∙ passed))
-
-    pub control-read : (t : Float) (i : ℕ) (p : Piece) → p .lo ≡ at1 plain (b .curve .knots) 0 → p .hi ≡ at1 plain (b .curve .knots) (n + 3)
-        → IsSpan (b .curve .knots) n (clampOf t (p .lo) (p .hi)) i → 3 ≤ i → i < n
-        → p .knots ≡ listed 0 6 (λ j. cstDv (at1 plain (b .curve .knots) (i - 2 + j)))
+  module _ {u : List Float} (knots-are : u ≡ us) where
+    pub control-read : (t : Float) (i : ℕ) (p : Piece) → p .lo ≡ at1 plain u 0 → p .hi ≡ at1 plain u (n + 3)
+        → IsSpan u n (clampOf t (p .lo) (p .hi)) i → 3 ≤ i → i < n
+        → p .knots ≡ listed 0 6 (λ j. cstDv (at1 plain u (i - 2 + j)))
         → p .xs ≡ fourOf dual (variablesOf q) (2 * (i - 3)) 2 → p .ys ≡ fourOf dual (variablesOf q) (2 * (i - 3) + 1) 2 → Read c t p
     unfolding controlShape
     control-read t i p l h s g k w x y =
-        let lo : p .lo ≡ at1 plain us 0 = l ∙ ap (λ (u : List Float). at1 plain u 0) knots-are in
-        let hi : p .hi ≡ at1 plain us (n + 3) = h ∙ ap (λ (u : List Float). at1 plain u (n + 3)) knots-are in
+        let lo : p .lo ≡ at1 plain us 0 = l ∙ ap (λ (l : List Float). at1 plain l 0) knots-are in
+        let hi : p .hi ≡ at1 plain us (n + 3) = h ∙ ap (λ (l : List Float). at1 plain l (n + 3)) knots-are in
         let is : i ≡ spanOf us n (clampOf t (p .lo) (p .hi)) = (rw knots-are at s) (room .0) (room .1) up in
-        let read = read-at i g k p (w ∙ ap (λ (u : List Float). listed 0 6 (λ j. cstDv (at1 plain u (i - 2 + j)))) knots-are) x y in
+        let read = read-at i g k p (w ∙ ap (λ (l : List Float). listed 0 6 (λ j. cstDv (at1 plain l (i - 2 + j)))) knots-are) x y in
         record {
           first = sym (knot-at 0 (omega arith)) ∙ ap cstDv (sym lo);
           last = sym (knot-at (n + 3) (omega arith)) ∙ ap cstDv (sym hi);

@@ -83,9 +83,8 @@ fn control_piece(q: &[f64], given: bool, knots: &[f64], t: f64) -> Piece
     ensures { λ r. ⌜ Read (controlShape (now (q .entry)) given (now (knots .entry))) t r ⌝ }
     ensures { λ r. ⌜ r .fine ≡ true ⌝ }
 {
-    let b = curve::assemble(q, given, knots);
     let n = q.len() / 2;
-    let u = b.curve.knots;
+    let u = curve::stored_knots(n, given, knots);
     let lo = u[0];
     let hi = u[n + 3];
     let i = span::span(&u, n, number::clamp(t, lo, hi));

@@ -1,4 +1,4 @@
-// The rules' numbers to check by that are not starred, run: the closest parameters of A and B, the orders that are accepted, and the fits that are
+// The rules' numbers to check by that are not starred, run: the closest parameters of A and B, the orders that are accepted, and curves that are
 // accepted and refused. Each line has what is asked and the answer; `stdout` has the rules' answers.
 use curve::Built;
 use knots::Form;
@@ -63,6 +63,32 @@ fn print_fit(points: &[f64]) {
     print_refusal(build::build(Form::Fit, points, false, &[], &mut work).refusal);
 }
 
+// Writes whether the residuals of a point held on the curve through these two points are answered: they store no length.
+fn print_held(points: &[f64]) {
+    let mut work = [0.0; 192];
+    let mut counts = [0u8; 24];
+    let mut residuals = [0.0; 3];
+    let mut rows = [0.0; 21];
+    print_refusal(residual::residual(
+        Form::Fit,
+        points,
+        false,
+        &[],
+        0.0,
+        0.0,
+        0.5,
+        &mut work,
+        &mut counts,
+        &mut residuals,
+        &mut rows,
+    ));
+}
+
+// Writes whether a curve with these control points is accepted.
+fn print_control(points: &[f64; 8]) {
+    print_refusal(uniform(points).refusal);
+}
+
 fn main() {
     io::write_all(STDOUT_FILENO, b"B closest to (-6,0): ");
     print_told(closest::closest(uniform(&b()).curve, -6.0, 0.0));
@@ -78,4 +104,10 @@ fn main() {
     print_fit(&[0.0, 0.0, 1e200, 0.0, 0.0, 0.0]);
     io::write_all(STDOUT_FILENO, b"fit (0,0),(1e200,0): ");
     print_fit(&[0.0, 0.0, 1e200, 0.0]);
+    io::write_all(STDOUT_FILENO, b"a point held on it: ");
+    print_held(&[0.0, 0.0, 1e200, 0.0]);
+    io::write_all(STDOUT_FILENO, b"a control edge of 1.35e154: ");
+    print_control(&[0.0, 0.0, 1.35e154, 0.0, 0.0, 0.0, 0.0, 0.0]);
+    io::write_all(STDOUT_FILENO, b"a control edge of 1.34e154: ");
+    print_control(&[0.0, 0.0, 1.34e154, 0.0, 0.0, 0.0, 0.0, 0.0]);
 }

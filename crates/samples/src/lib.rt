@@ -93,7 +93,7 @@ fn answer_samples(n: usize, u: &[f64], per: usize, out: &mut [f64], count: &mut 
 pub fn samples(c: Curve, per: usize, out: &mut [f64], count: &mut u64) -> Refusal
     ensures { λ r. ⌜ counted r (now (out .exit)) (now (count .exit)) ≡ samplesAnswer (byRecord c) per (now (out .entry)) (now (count .entry)) ⌝ }
 {
-    let r = shape::check(c.points, c.knot_count, &c.xs, &c.ys, &c.knots);
+    let r = curve::check(c.points, c.knot_count, c.length, &c.xs, &c.ys, &c.knots);
     if r.number != 0 {
         return r;
     }

@@ -13,7 +13,7 @@ use Rattle.meaning.specs.Scalar.{plain}
 use Rattle.meaning.specs.Table.{at1}
 use Rattle.meaning.proofs.Filling.{nth-listed}
 use Rattle.meaning.proofs.Tests.{or-left, or-right}
-use Rattle.refusal.proofs.Rows.{Passed, numbered, row-passed, both-pass}
+use Rattle.refusal.proofs.Rows.{Passed, number-of, numbered, row-passed, no-rows, both-pass}
 use Rattle.knots.specs.declared.Form.the-variants.{Control}
 use Rattle.knots.specs.Rules.{knotRules}
 use Rattle.knots.proofs.Accepted.{Accepted, accepted}
@@ -31,6 +31,9 @@ AllFinite n cs = (j : ℕ) → j < n → finite (at1 plain cs j) ≡ true
 
 pub record Sound (who : Offered) : Type 0 where
   pub counted : T (numbered (who .rules))
+  pub early : T (numbered (who .till11))
+  pub late : T (numbered (who .from17))
+  pub parts : Passed (who .rules) → Passed (who .till11) × Passed (who .from17)
   pub knots : Passed (who .rules) → Accepted (take (who .shape .n + 4) (who .shape .knots)) (who .shape .n)
   pub xs : Passed (who .rules) → AllFinite (who .shape .n) (who .shape .xs)
   pub ys : Passed (who .rules) → AllFinite (who .shape .n) (who .shape .ys)
@@ -46,6 +49,9 @@ rooms-sound n k xs ys us =
     let s = inRooms n k xs ys us .shape in
     record {
       counted = numbered-shape k s;
+      early = numbered-shape k s;
+      late = tt;
+      parts = λ h. (h, number-of no-rows);
       knots = trusted k s;
       xs = λ h. each-finite xs n (or-left _ _ (tame k s h));
       ys = λ h. each-finite ys n (or-right (someWild xs n) _ (tame k s h));
@@ -68,6 +74,9 @@ slices-sound coords ks =
     others-finite coords off (accepted ks (pointsIn coords) (handles-passed-knots Control coords true ks h) .room) o (handles-tame Control coords true ks h) in
     record {
       counted = numbered-handles Control coords true ks;
+      early = numbered-handles Control coords true ks;
+      late = tt;
+      parts = λ h. (h, number-of no-rows);
       knots = slices-trusted coords ks;
       xs = fine 0 (omega arith);
       ys = fine 1 (omega arith);

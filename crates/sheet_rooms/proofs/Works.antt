@@ -17,7 +17,7 @@ use Rattle.curve.specs.declared.Built.{Built}
 use Rattle.curve.specs.Build.{building}
 use Rattle.curve.proofs.Builds.{handles-refused, room-refused}
 use Rattle.fit.proofs.Asked.{fit-room, work-small}
-use Rattle.build.specs.Build.{curveOf, storedFine, lacksWork, rulesOf}
+use Rattle.build.specs.Build.{curveOf, lacksWork, rulesOf}
 use Rattle.sheet_read.specs.declared.Sheet.{Sheet}
 use Rattle.sheet_read.specs.Grammar.{sheetOf}
 use Rattle.sheet_text.specs.Printed.{refusalText}
@@ -37,7 +37,7 @@ long-enough Fit q given ks work h =
     (λ e. let f = eqb-false (firstOf (handleRules Fit q given ks) .number) 0 e in sym (decided (lacksWork Fit q work) f) ∙ decided false f)
   where
     decided : (short : Bool) → (firstOf (handleRules Fit q given ks) .number ≡ 0 → ⊥) → firstOf (handleRules Fit q given ks) ≡ firstOf (rulesOf Fit q given ks short)
-    decided short f = room-refused Fit q given ks short (storedFine Fit q given ks) (handles-refused Fit q given ks short refl f) f
+    decided short f = room-refused Fit q given ks short _ (handles-refused Fit q given ks short refl f) f
 
 same-building : (a b : List Row) (c : Curve) → firstOf a ≡ firstOf b → building a c ≡ building b c
 unfolding building

@@ -18,6 +18,7 @@ use Rattle.outcome.specs.Outcome.{answering}
 use Rattle.shape.specs.Shape.{pointsIn}
 use Rattle.shape.specs.Rules.{shapeRules, handleRules}
 use Rattle.curve.specs.declared.Curve.{Curve}
+use Rattle.curve.specs.Record.{recordRules}
 use Rattle.curve.specs.Build.{building, buildRules}
 use Rattle.fit.specs.Fit.{curveThrough}
 use Rattle.build.specs.Build.{curveOf, rulesOf}
@@ -60,7 +61,7 @@ unfolding buildRules handleRules knotRules
 build-small form coords given ks short = first-small (rulesOf form coords given ks short) tt
 
 pub line-small : (c : Curve) (t : Float) → lineAnswer c t .refusal .number < 100
-unfolding pointAnswer answering shapeRules knotRules
+unfolding pointAnswer answering recordRules shapeRules knotRules
 line-small c t = first-small _ tt
 
 -- ---- counts

@@ -14,7 +14,7 @@ use Rattle.refusal.specs.declared.Refusal.{Refusal}
 use Rattle.refusal.specs.Refusals.{refusal, none, firstOf}
 use Rattle.refusal.proofs.Rows.{number-of, passed-none}
 use Rattle.outcome.specs.Outcome.{outcome}
-use Rattle.shape.proofs.Trusted.{numbered-shape}
+use Rattle.curve.proofs.Recheck.{record-sound}
 use Rattle.curve.specs.declared.Curve.{Curve}
 use Rattle.curve.specs.Record.{byRecord}
 use Rattle.build.proofs.Doors.{build-accepted}
@@ -79,4 +79,4 @@ module _ (s : List ℕ) (work : List Float) (formed : sheetOf s .formed ≡ true
 pub curve-accepted : (s : List ℕ) (x : Sheet) (work : List Float) → sheetBuild s x work .built .refusal ≡ none
     → firstOf (byRecord (sheetBuild s x work .built .curve) .rules) ≡ none
 curve-accepted s x work e =
-    passed-none _ (numbered-shape _ _) (build-accepted (x .form) (pointsOf s x) (givenOf s x) (knotsOf s x) work refl (number-of e))
+    passed-none _ (record-sound (sheetBuild s x work .built .curve) .counted) (build-accepted (x .form) (pointsOf s x) (givenOf s x) (knotsOf s x) work refl (number-of e))

@@ -4,7 +4,6 @@ ghost use mathlib.Core.Bool.{false};
 ghost use mathlib.Core.List.{_++_};
 ghost use Prim.Native.Nat.{_+_, _*_, _≤_, _<_};
 ghost use lib.ListN.{length, take};
-ghost use lib.Ieee.{binary64, toBits};
 ghost use Rattle.sheet_read.specs.Number.{glyph};
 ghost use Rattle.sheet_read.specs.Grammar.{numbersAt};
 ghost use Rattle.sheet_read.proofs.Sections.{Limits};
@@ -41,16 +40,6 @@ fn hex_digits(b: u64) -> [u8; 16]
         h[i] = glyph((b >> k) % 16);
     }
     h
-}
-
-// The bits of x. A NaN has many; this is one of them, and nothing prints it.
-fn bits_of(x: f64) -> u64
-    ensures { λ r. ⌜ r ≡ toBits binary64 x ⌝ }
-{
-    if x != x {
-        return 0x7ff8_0000_0000_0000;
-    }
-    f64::to_bits(x)
 }
 
 // ---- lines
@@ -92,7 +81,7 @@ fn put_double(out: &mut [u8], at: usize, w: &[u8], x: f64) -> usize
     ensures { λ r. ⌜ Put (now (out .entry)) at (now (w .entry) ++ doubleText x) (now (out .exit)) r ⌝ }
 {
     let a = put(out, at, w);
-    let h = hex_digits(bits_of(x));
+    let h = hex_digits(number::bits(x));
     put(out, a, &h)
 }
 

@@ -8,6 +8,7 @@ use Prim.Native.Nat.{ℕ}
 use lib.ListN.{replicate, take}
 use lib.IntN.{pos}
 use lib.Ieee.{Float, binary64, ofBits, ofInt, add, sub, mul, div, neg, lt, le, round, eq, ne, fin}
+use lib.Ieee.Scale.{finite}
 use Rattle.meaning.specs.Root.{rootOf}
 use Rattle.meaning.specs.Scalar.{zero64, one64, plain}
 use Rattle.meaning.specs.Loops.{turns}
@@ -23,7 +24,9 @@ use Rattle.span.specs.Span.{spanOf}
 use Rattle.basis.specs.Triangle.{columnTurn, columnOf, sidesTurn, triangleOf}
 use Rattle.basis.specs.Derivatives.{firstCoef, midTurn, midCoefs, lastCoef, orderOf}
 use Rattle.basis.specs.Basis.{valuesOf, orderTurn, functionOf, functionsOf, scaledRow, scaleTurn, scaled, derivativesOf, basisOf}
+use Rattle.plane.specs.Vector.{normV}
 use Rattle.shape.specs.Shape.{Shape}
+use Rattle.polygon.specs.Polygon.{lengthBy, lengthOf}
 use Rattle.evaluate.specs.Point.{weighted, placed, insideOf, beyondOf, orderAt, ordersOf}
 use Rattle.solve.specs.Stored.{allFine, storedBySolve}
 use Rattle.solve.specs.Outcome.{solutionOf}
@@ -153,9 +156,17 @@ stored-fine : allFine plain (knotsThrough two-points ++ flatten system ++ stored
 unfolding two-points system knotsBy knotAt parameterAt listed flatten allFine storedBySolve sub mul div lt le eq ne neg ofBits smaller
 stored-fine = refl
 
+length-fine : finite (lengthOf plain (solutionOf plain 4 system .xs) (solutionOf plain 4 system .ys) 4) ≡ true
+unfolding system solutionOf lengthBy turns normV rootOf add sub mul div lt le eq ne neg ofBits smaller round
+length-fine = refl
+
 fit-accepted : firstOf (fitRules two-points false [] false) ≡ none
-unfolding two-points firstOf buildRules handleRules knotRules seekFrom fitFine storedThrough ofInt round
-fit-accepted = rw (ap (λ (M : List (List Float)). allFine plain (knotsThrough two-points ++ flatten M ++ storedBySolve plain 4 M)) rows ∙ stored-fine)
+unfolding two-points firstOf buildRules handleRules knotRules seekFrom fitFine storedThrough curveThrough solutionThrough ofInt round
+fit-accepted =
+    rw (
+      ap (λ (M : List (List Float)). allFine plain (knotsThrough two-points ++ flatten M ++ storedBySolve plain 4 M)) rows ∙ stored-fine,
+      ap (λ (M : List (List Float)). finite (lengthOf plain (solutionOf plain 4 M .xs) (solutionOf plain 4 M .ys) 4)) rows ∙ length-fine,
+    )
 
 -- * the spans of 5 points: 0.5 gives 4; 1 gives 4; 0 gives 3
 span-of-half : spanOf (uniformOf 5) 5 half ≡ 4

@@ -25,7 +25,8 @@ ghost use Rattle.closest.specs.Search.{closestAnswer};
 ghost use Rattle.closest.specs.Many.{closestMany};
 ghost use Rattle.residual.specs.Residual as held;
 ghost use Rattle.c_values.specs.Crossing.{isGiven, readDv, readV, readSix, AnsweredD, AnsweredV, AnsweredP, AnsweredB};
-ghost use Rattle.c_curves.specs.Curves.{asRecord, behind, handed};
+ghost use Rattle.c_curves.specs.Curves.{readCurve, asRecord, behind, handed};
+ghost use Rattle.moving.specs.Moving.{movedOut, movedInto};
 use knots::Form;
 use partials::Dv;
 use plane::P2;
@@ -686,13 +687,14 @@ pub extern "C" fn threshdune_partials_basis(
     c_values::answer_rows(rows, out, counts)
 }
 
-// ---- curves as records: two counts and three rooms, checked again like any other
+// ---- curves as records: two counts, the length and three rooms, checked again like any other
 
 // The point at t and its derivatives up to the order.
 #[no_mangle]
 pub extern "C" fn threshdune_record_evaluate(
     points: u64,
     knot_count: u64,
+    length: f64,
     xs: &[f64],
     ys: &[f64],
     knots: &[f64],
@@ -701,13 +703,13 @@ pub extern "C" fn threshdune_record_evaluate(
     out: &mut [f64],
 ) -> u64
     ensures answer { λ r. ⌜ outcome (refusal r) (now (out .exit))
-        ≡ pointAnswer (asRecord points «knot_count» (now (xs .entry)) (now (ys .entry)) (now (knots .entry))) t order (now (out .entry)) ⌝ }
-    ensures hull { λ r. ⌜ InItsHull (asRecord points «knot_count» (now (xs .entry)) (now (ys .entry)) (now (knots .entry))) t (refusal r)
+        ≡ pointAnswer (asRecord points «knot_count» length (now (xs .entry)) (now (ys .entry)) (now (knots .entry))) t order (now (out .entry)) ⌝ }
+    ensures hull { λ r. ⌜ InItsHull (asRecord points «knot_count» length (now (xs .entry)) (now (ys .entry)) (now (knots .entry))) t (refusal r)
         (now (out .exit)) ⌝ }
-    ensures never { λ r. ⌜ NeverRefused (asRecord points «knot_count» (now (xs .entry)) (now (ys .entry)) (now (knots .entry)))
+    ensures never { λ r. ⌜ NeverRefused (asRecord points «knot_count» length (now (xs .entry)) (now (ys .entry)) (now (knots .entry)))
         t order (now (out .entry)) (refusal r) ⌝ }
 {
-    let c = c_curves::read_curve(points, knot_count, xs, ys, knots);
+    let c = c_curves::read_curve(points, knot_count, length, xs, ys, knots);
     let r = point::evaluate(c, t, order as usize, out);
     r.number
 }
@@ -717,6 +719,7 @@ pub extern "C" fn threshdune_record_evaluate(
 pub extern "C" fn threshdune_record_evaluate_many(
     points: u64,
     knot_count: u64,
+    length: f64,
     xs: &[f64],
     ys: &[f64],
     knots: &[f64],
@@ -726,14 +729,14 @@ pub extern "C" fn threshdune_record_evaluate_many(
     refusals: &mut [u64],
 ) -> u64
     ensures answer { λ r. ⌜ many (refusal r) (now (out .exit)) (now (refusals .exit))
-        ≡ pointsAnswer (asRecord points «knot_count» (now (xs .entry)) (now (ys .entry)) (now (knots .entry))) (now (ts .entry)) order
+        ≡ pointsAnswer (asRecord points «knot_count» length (now (xs .entry)) (now (ys .entry)) (now (knots .entry))) (now (ts .entry)) order
         (now (out .entry)) (now (refusals .entry)) ⌝ }
-    ensures hull { λ r. ⌜ EachInItsHull (asRecord points «knot_count» (now (xs .entry)) (now (ys .entry)) (now (knots .entry))) (now (ts .entry))
+    ensures hull { λ r. ⌜ EachInItsHull (asRecord points «knot_count» length (now (xs .entry)) (now (ys .entry)) (now (knots .entry))) (now (ts .entry))
         order (refusal r) (now (out .exit)) (now (refusals .exit)) ⌝ }
-    ensures never { λ r. ⌜ NoneRefused (asRecord points «knot_count» (now (xs .entry)) (now (ys .entry)) (now (knots .entry))) (now (ts .entry))
+    ensures never { λ r. ⌜ NoneRefused (asRecord points «knot_count» length (now (xs .entry)) (now (ys .entry)) (now (knots .entry))) (now (ts .entry))
         order (now (out .entry)) (refusal r) (now (refusals .exit)) ⌝ }
 {
-    let c = c_curves::read_curve(points, knot_count, xs, ys, knots);
+    let c = c_curves::read_curve(points, knot_count, length, xs, ys, knots);
     let r = points::evaluate_many(c, ts, order as usize, out, refusals);
     r.number
 }
@@ -743,6 +746,7 @@ pub extern "C" fn threshdune_record_evaluate_many(
 pub extern "C" fn threshdune_record_point_tangent(
     points: u64,
     knot_count: u64,
+    length: f64,
     xs: &[f64],
     ys: &[f64],
     knots: &[f64],
@@ -750,11 +754,11 @@ pub extern "C" fn threshdune_record_point_tangent(
     out: &mut [f64],
 ) -> u64
     ensures answer { λ r. ⌜ outcome (refusal r) (now (out .exit))
-        ≡ tangentAnswer (asRecord points «knot_count» (now (xs .entry)) (now (ys .entry)) (now (knots .entry))) t (now (out .entry)) ⌝ }
-    ensures hull { λ r. ⌜ InItsHull (asRecord points «knot_count» (now (xs .entry)) (now (ys .entry)) (now (knots .entry))) t (refusal r)
+        ≡ tangentAnswer (asRecord points «knot_count» length (now (xs .entry)) (now (ys .entry)) (now (knots .entry))) t (now (out .entry)) ⌝ }
+    ensures hull { λ r. ⌜ InItsHull (asRecord points «knot_count» length (now (xs .entry)) (now (ys .entry)) (now (knots .entry))) t (refusal r)
         (now (out .exit)) ⌝ }
 {
-    let c = c_curves::read_curve(points, knot_count, xs, ys, knots);
+    let c = c_curves::read_curve(points, knot_count, length, xs, ys, knots);
     let r = point::point_tangent(c, t, out);
     r.number
 }
@@ -764,16 +768,17 @@ pub extern "C" fn threshdune_record_point_tangent(
 pub extern "C" fn threshdune_record_length(
     points: u64,
     knot_count: u64,
+    length: f64,
     xs: &[f64],
     ys: &[f64],
     knots: &[f64],
-    length: &mut f64,
+    answer: &mut f64,
 ) -> u64
-    ensures { λ r. ⌜ behind (refusal r) (now (length .exit))
-        ≡ handed (lengthAnswer (asRecord points «knot_count» (now (xs .entry)) (now (ys .entry)) (now (knots .entry)))) 0 (now (length .entry)) ⌝ }
+    ensures { λ r. ⌜ behind (refusal r) (now (answer .exit))
+        ≡ handed (lengthAnswer (asRecord points «knot_count» length (now (xs .entry)) (now (ys .entry)) (now (knots .entry)))) 0 (now (answer .entry)) ⌝ }
 {
-    let c = c_curves::read_curve(points, knot_count, xs, ys, knots);
-    let r = c_curves::hand_number(measure::length(c), length);
+    let c = c_curves::read_curve(points, knot_count, length, xs, ys, knots);
+    let r = c_curves::hand_number(measure::length(c), answer);
     r.number
 }
 
@@ -782,6 +787,7 @@ pub extern "C" fn threshdune_record_length(
 pub extern "C" fn threshdune_record_domain(
     points: u64,
     knot_count: u64,
+    length: f64,
     xs: &[f64],
     ys: &[f64],
     knots: &[f64],
@@ -789,11 +795,11 @@ pub extern "C" fn threshdune_record_domain(
     to: &mut f64,
 ) -> u64
     ensures { λ r. ⌜ behind (refusal r) (now (from .exit))
-        ≡ handed (domainAnswer (asRecord points «knot_count» (now (xs .entry)) (now (ys .entry)) (now (knots .entry)))) 0 (now (from .entry)) ⌝ }
+        ≡ handed (domainAnswer (asRecord points «knot_count» length (now (xs .entry)) (now (ys .entry)) (now (knots .entry)))) 0 (now (from .entry)) ⌝ }
     ensures { λ r. ⌜ behind (refusal r) (now (to .exit))
-        ≡ handed (domainAnswer (asRecord points «knot_count» (now (xs .entry)) (now (ys .entry)) (now (knots .entry)))) 1 (now (to .entry)) ⌝ }
+        ≡ handed (domainAnswer (asRecord points «knot_count» length (now (xs .entry)) (now (ys .entry)) (now (knots .entry)))) 1 (now (to .entry)) ⌝ }
 {
-    let c = c_curves::read_curve(points, knot_count, xs, ys, knots);
+    let c = c_curves::read_curve(points, knot_count, length, xs, ys, knots);
     let r = c_curves::hand_interval(measure::domain(c), from, to);
     r.number
 }
@@ -803,6 +809,7 @@ pub extern "C" fn threshdune_record_domain(
 pub extern "C" fn threshdune_record_samples(
     points: u64,
     knot_count: u64,
+    length: f64,
     xs: &[f64],
     ys: &[f64],
     knots: &[f64],
@@ -811,10 +818,10 @@ pub extern "C" fn threshdune_record_samples(
     count: &mut u64,
 ) -> u64
     ensures { λ r. ⌜ counted (refusal r) (now (out .exit)) (now (count .exit))
-        ≡ samplesAnswer (asRecord points «knot_count» (now (xs .entry)) (now (ys .entry)) (now (knots .entry)))
+        ≡ samplesAnswer (asRecord points «knot_count» length (now (xs .entry)) (now (ys .entry)) (now (knots .entry)))
         «per_span» (now (out .entry)) (now (count .entry)) ⌝ }
 {
-    let c = c_curves::read_curve(points, knot_count, xs, ys, knots);
+    let c = c_curves::read_curve(points, knot_count, length, xs, ys, knots);
     let r = samples::samples(c, per_span as usize, out, count);
     r.number
 }
@@ -824,6 +831,7 @@ pub extern "C" fn threshdune_record_samples(
 pub extern "C" fn threshdune_record_closest(
     points: u64,
     knot_count: u64,
+    length: f64,
     xs: &[f64],
     ys: &[f64],
     knots: &[f64],
@@ -832,10 +840,10 @@ pub extern "C" fn threshdune_record_closest(
     t: &mut f64,
 ) -> u64
     ensures { λ r. ⌜ behind (refusal r) (now (t .exit))
-        ≡ handed (closestAnswer (asRecord points «knot_count» (now (xs .entry)) (now (ys .entry)) (now (knots .entry)))
+        ≡ handed (closestAnswer (asRecord points «knot_count» length (now (xs .entry)) (now (ys .entry)) (now (knots .entry)))
         (record { x = px; y = py })) 0 (now (t .entry)) ⌝ }
 {
-    let c = c_curves::read_curve(points, knot_count, xs, ys, knots);
+    let c = c_curves::read_curve(points, knot_count, length, xs, ys, knots);
     let r = c_curves::hand_number(closest::closest(c, px, py), t);
     r.number
 }
@@ -845,6 +853,7 @@ pub extern "C" fn threshdune_record_closest(
 pub extern "C" fn threshdune_record_closest_many(
     points: u64,
     knot_count: u64,
+    length: f64,
     xs: &[f64],
     ys: &[f64],
     knots: &[f64],
@@ -853,10 +862,35 @@ pub extern "C" fn threshdune_record_closest_many(
     refusals: &mut [u64],
 ) -> u64
     ensures { λ r. ⌜ many (refusal r) (now (out .exit)) (now (refusals .exit))
-        ≡ closestMany (asRecord points «knot_count» (now (xs .entry)) (now (ys .entry)) (now (knots .entry))) (now (marks .entry))
+        ≡ closestMany (asRecord points «knot_count» length (now (xs .entry)) (now (ys .entry)) (now (knots .entry))) (now (marks .entry))
         (now (out .entry)) (now (refusals .entry)) ⌝ }
 {
-    let c = c_curves::read_curve(points, knot_count, xs, ys, knots);
+    let c = c_curves::read_curve(points, knot_count, length, xs, ys, knots);
     let r = closest::closest_many(c, marks, out, refusals);
+    r.number
+}
+
+// The record with the control point of this index at (x, y): its coordinates, x and y apart, and its length.
+#[no_mangle]
+pub extern "C" fn threshdune_record_move(
+    points: u64,
+    knot_count: u64,
+    length: f64,
+    xs: &[f64],
+    ys: &[f64],
+    knots: &[f64],
+    index: u64,
+    x: f64,
+    y: f64,
+    xs_out: &mut [f64],
+    ys_out: &mut [f64],
+    length_out: &mut f64,
+) -> u64
+    ensures { λ r. ⌜ movedOut (refusal r) (now («xs_out» .exit)) (now («ys_out» .exit)) (now («length_out» .exit))
+        ≡ movedInto (readCurve points «knot_count» length (now (xs .entry)) (now (ys .entry)) (now (knots .entry))) index x y
+        (now («xs_out» .entry)) (now («ys_out» .entry)) (now («length_out» .entry)) ⌝ }
+{
+    let c = c_curves::read_curve(points, knot_count, length, xs, ys, knots);
+    let r = moving::move_into(c, index as usize, x, y, xs_out, ys_out, length_out);
     r.number
 }

@@ -1,40 +1,43 @@
 -- `closest::closest_slices` meets its contract: the rules of the slices, then the answer.
 use native.Mathlib.Omega.{arith}
-use mathlib.Core.Path.{ap, _∙_}
-use mathlib.Core.Bool.{true}
+use mathlib.Core.Path.{sym, ap, _∙_}
 use denote.Ref.{now}
-use Rattle.knots.specs.declared.Form.the-variants.{Control}
-use Rattle.outcome.proofs.Doors.{tells, refused-told, after-told}
-use Rattle.shape.specs.Rules.{handleRules}
+use Rattle.refusal.proofs.Rows.{Passed, number-of, no-rows}
+use Rattle.outcome.proofs.Doors.{tells, refused-told}
+use Rattle.shape.specs.Offered.{inSlices}
 use Rattle.shape.specs.Trusting.{trusting}
-use Rattle.shape.proofs.Handles.{numbered-handles}
-use Rattle.curve.specs.declared.Curve.{Curve}
-use Rattle.curve.proofs.Builds.{built-refusal, built-passed, built-curve}
-use Rattle.curve.proofs.Assembled.{assembled-trusted}
+use Rattle.shape.proofs.Handles.{slices-trusted}
+use Rattle.shape.proofs.Sound.{slices-sound}
+use Rattle.curve.specs.declared.Rooms.{Rooms}
 use Rattle.closest.specs.Search.{closestAnswer}
+use Rattle.closest.proofs.Past.{search-past}
 use Rattle.closest.proofs.closest_slices.Statement.{statement}
 use Rattle.closest.proofs.closest_slices.Tie as tie
 
+abbrev start-of : tie.Else1 → tie.Start
+start-of c = c .before .before .before .before .before
+
+passed : (c : tie.Else1) → let a = start-of c .args in Passed (inSlices (now (a .coords)) (now (a .knots)) .rules)
+passed c = number-of (sym (c .before .before .check-handles .ensures)) ∙ c .if1 .left
+
 returns : tie.Need-returns
 unfolding closestAnswer
-returns c = tells (refused-told _ _ (built-refusal _ _ (c .before .before .before .assemble .ensures)) (c .if1 .taken))
+returns c = tells (refused-told _ _ (c .before .before .check-handles .ensures) (c .if1 .taken))
 
 search-requires : tie.Need-search-requires
 search-requires c κs =
-    let t = c .before .before .before .before .before in
-    assembled-trusted _ _ (t .before .before .before .assemble .ensures) (t .if1 .left)
+    let m = c .before .before .before .before in
+    let a = start-of (m .before) .args in
+    rw (m .in-rooms .ensures) (slices-trusted (now (a .coords)) (now (a .knots)) (passed (m .before)))
 
 returns-2 : tie.Need-returns-2
-unfolding closestAnswer
 returns-2 c =
-    let t = c .before .before .before .before .before .before in
-    let b = t .before .before .before in
-    let a = b .before .before .before .args in
-    let made = built-curve _ _ (b .assemble .ensures) (t .if1 .left) in
-    tells
-    (after-told (handleRules Control (now (a .coords)) true (now (a .knots))) (numbered-handles Control _ true _) (built-passed _ _ (b .assemble .ensures) (t .if1 .left))
-    (record { is = c .search .ensures ∙ ap (λ (k : Curve). closestAnswer (trusting (k .points) (k .xs) (k .ys) (k .knots)) (record { x = a .px; y = a .py })) made }))
+    let m = c .before .before .before .before .before in
+    let a = start-of (m .before) .args in
+    let who = inSlices (now (a .coords)) (now (a .knots)) in
+    c .search .ensures
+    ∙ ap (λ (k : Rooms). closestAnswer (trusting (k .points) (k .xs) (k .ys) (k .knots)) (record { x = a .px; y = a .py })) (m .in-rooms .ensures)
+    ∙ search-past who (slices-sound (now (a .coords)) (now (a .knots))) (passed (m .before)) (number-of no-rows) _
 
 pub closest-slices-spec : {M : Type 1} → statement M
-closest-slices-spec =
-    tie.close (tie.spec (omega arith) returns search-requires returns-2)
+closest-slices-spec = tie.close (tie.spec (omega arith) returns (omega arith) search-requires returns-2)

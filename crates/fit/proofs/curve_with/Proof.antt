@@ -1,15 +1,12 @@
 -- `fit::curve_with` meets its contract.
 use native.Mathlib.Omega.{arith}
-use mathlib.Core.Path.{_≡_, sym, ap, _∙_}
+use mathlib.Core.Path.{_≡_, ap, _∙_}
 use mathlib.Core.Bool.{Bool, not, _&&_}
-use mathlib.Core.List.{[]}
-use native.Mathlib.Nat.{suc-ne-zero}
-use borrow.Author.Tests.{not-true, not-false}
+use borrow.Author.Needs.{needs}
 use lib.Dec.{ltb}
-use Rattle.refusal.specs.Refusals.{row}
-use Rattle.refusal.proofs.Rows.{number-of, row-applies, row-passes, no-rows}
 use Rattle.outcome.specs.Outcome.{someWild}
-use Rattle.curve.proofs.Builds.{unbuilt, built-refused, built-made}
+use Rattle.curve.specs.Record.{curveOver}
+use Rattle.curve.specs.Making.{measuring}
 use Rattle.fit.proofs.curve_with.Statement.{statement}
 use Rattle.fit.proofs.curve_with.Tie as tie
 
@@ -20,21 +17,18 @@ fine c = let a = c .before .before .before .before .args in not (someWild (a .t2
 judged : (c : tie.After-both2) → c .both2 .result ≡ fine c
 judged c = c .both2 .ensures ∙ (λ i. not (ltb (c .before .before .first-wild .ensures i) 70) && c .before .both .ensures i)
 
+slice-aggregate-first-wild : tie.Need-slice-aggregate-first-wild
+slice-aggregate-first-wild c = search needs
+
+first-wild-requires : tie.Need-first-wild-requires
+first-wild-requires c κs = search needs
+
 returns : tie.Need-returns
 returns c =
-    let t = c .before .before in
-    let v = sym (judged (t .before)) ∙ not-true _ (t .if1 .taken) in
-    c .refused .ensures ∙ ap unbuilt (c .before .by .ensures)
-    ∙ built-refused _ _ (sym (row-applies (row 15 (not (fine (t .before)))) [] (ap not v))) (suc-ne-zero 14)
-
-returns-2 : tie.Need-returns-2
-returns-2 c =
-    let t = c .before .before .before in
-    let v = sym (judged (t .before)) ∙ not-false _ (t .if1 .left) in
-    built-made _ _ (c .by2 .ensures ∙ sym (row-passes (row 15 (not (fine (t .before)))) [] (ap not v) ∙ no-rows)) (number-of (c .by2 .ensures))
+    let b = c .before .before .before in
+    let a = b .before .before .before .before .args in
+    c .measured .ensures ∙ ap (λ (t : Bool). measuring t (curveOver (a .m) (a .t2) (a .s .xs) (a .s .ys))) (judged b)
 
 pub curve-with-spec : {M : Type 1} → statement M
 curve-with-spec =
-    tie.close
-    (tie.spec (omega arith) (omega arith) (omega arith) (omega arith) (omega arith) (omega arith) returns
-    (omega arith) (omega arith) returns-2)
+    tie.close (tie.spec slice-aggregate-first-wild first-wild-requires (omega arith) (omega arith) (omega arith) returns)

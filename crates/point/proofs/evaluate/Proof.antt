@@ -4,9 +4,9 @@ use mathlib.Core.Path.{sym, _∙_, subst}
 use denote.Ref.{now}
 use lib.Dec.{T}
 use Rattle.refusal.proofs.Rows.{number-of}
-use Rattle.shape.proofs.Sound.{rooms-sound}
 use Rattle.hull.proofs.Given.{Doubles}
 use Rattle.curve.specs.Record.{byRecord}
+use Rattle.curve.proofs.Recheck.{record-sound}
 use Rattle.point.proofs.Answered.{point-refused, point-answered}
 use Rattle.point.proofs.Promised.{point-promised}
 use Rattle.point.proofs.Typed.{typed}
@@ -23,7 +23,7 @@ returns : tie.Need-returns
 returns c =
     let k = c .before .before in
     let s = start-of k in
-    point-promised _ (rooms-sound _ _ _ _ _) _ (doubles s) (s .args .order) (now (s .args .out))
+    point-promised _ (record-sound _) _ (doubles s) (s .args .order) (now (s .args .out))
     (point-refused (byRecord (s .args .t1)) (s .args .t) (now (s .args .out)) (k .check .ensures) (c .if1 .taken) (s .args .order))
 
 returns-2 : tie.Need-returns-2
@@ -32,8 +32,8 @@ returns-2 c =
     let t = o .before .before .before .before .before in
     let k = t .before .before in
     let s = start-of k in
-    point-promised _ (rooms-sound _ _ _ _ _) _ (doubles s) (s .args .order) (now (s .args .out))
-    (point-answered (byRecord (s .args .t1)) (rooms-sound _ _ _ _ _) (number-of (sym (k .check .ensures)) ∙ t .if1 .left) (s .args .t) (s .args .order)
+    point-promised _ (record-sound _) _ (doubles s) (s .args .order) (now (s .args .out))
+    (point-answered (byRecord (s .args .t1)) (record-sound _) (number-of (sym (k .check .ensures)) ∙ t .if1 .left) (s .args .t) (s .args .order)
     (now (s .args .out)) (o .orders .ensures) (c .before .before .answer-point .ensures))
 
 pub evaluate-spec : {M : Type 1} → statement M

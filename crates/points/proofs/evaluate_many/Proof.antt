@@ -6,8 +6,8 @@ use lib.ListN.{length}
 use Rattle.meaning.specs.Scalar.{plain}
 use Rattle.meaning.specs.Table.{at1}
 use Rattle.refusal.proofs.Rows.{number-of}
-use Rattle.shape.proofs.Sound.{rooms-sound}
 use Rattle.curve.specs.Record.{byRecord}
+use Rattle.curve.proofs.Recheck.{record-sound}
 use Rattle.point.proofs.Typed.{typed}
 use Rattle.points.proofs.Answers.{call-fits, points-refused, call-refused, points-answered, refused-points, points-promised}
 use Rattle.points.proofs.evaluate_many.Statement.{statement}
@@ -31,7 +31,7 @@ returns-2 c =
     let a = start-of k .args in
     let who = byRecord (a .t1) in
     refused-points who (now (a .ts)) (a .order) (now (a .out)) (now (a .refusals)) (c .if2 .taken)
-    (call-refused who (now (a .ts)) (a .order) (now (a .out)) (now (a .refusals)) (rooms-sound _ _ _ _ _)
+    (call-refused who (now (a .ts)) (a .order) (now (a .out)) (now (a .refusals)) (record-sound _)
     (number-of (sym (k .check .ensures)) ∙ q .before .if1 .left) (q .check-call .ensures) (c .if2 .taken))
 
 answer-each-requires : tie.Need-answer-each-requires
@@ -50,8 +50,8 @@ returns-3 c =
     let s = start-of k in
     let a = s .args in
     let who = byRecord (a .t1) in
-    points-promised who (now (a .ts)) (a .order) (now (a .out)) (now (a .refusals)) (rooms-sound _ _ _ _ _)
-    (points-answered who (now (a .ts)) (a .order) (now (a .out)) (now (a .refusals)) (rooms-sound _ _ _ _ _)
+    points-promised who (now (a .ts)) (a .order) (now (a .out)) (now (a .refusals)) (record-sound _)
+    (points-answered who (now (a .ts)) (a .order) (now (a .out)) (now (a .refusals)) (record-sound _)
     (number-of (sym (k .check .ensures)) ∙ q .before .if1 .left) (q .check-call .ensures) (t .if2 .left) (e .answer-each .ensures))
     (λ j h. typed (a .t1) _ (s .good .0) (at1 plain (now (a .ts)) j) (k .before .before .before .before .before .before .before .shared-slice-known .given j))
 

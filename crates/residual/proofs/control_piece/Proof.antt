@@ -10,15 +10,15 @@ use Rattle.residual.proofs.control_piece.Statement.{statement}
 use Rattle.residual.proofs.control_piece.Tie as tie
 
 -- the span lies below the number of points
-below : (c : tie.After-span) → c .span .result < pointsIn (now (c .before .before .before .before .before .before .before .args .q))
+below : (c : tie.After-span) → c .span .result < pointsIn (now (c .before .before .before .before .before .before .args .q))
 below c =
-    let s = c .before .before .before .before .before .before .before in
+    let s = c .before .before .before .before .before .before in
     let a = s .args in
     c .span .ensures .1 .1 .1 .1 (room (now (a .q)) (a .given) (now (a .knots)) (s .pre) .0)
 
 array-read-hi : tie.Need-array-read-hi
 array-read-hi c =
-    let s = c .before .before .before .before in
+    let s = c .before .before .before in
     let a = s .args in
     omega (arith, room (now (a .q)) (a .given) (now (a .knots)) (s .pre) .1)
 
@@ -37,10 +37,10 @@ returns c =
     let w = x .before in
     let i = w .before .before in
     let k = i .before in
-    let b = k .before .before .before in
+    let b = k .before .before in
     let s = b .before .before .before in
     let a = s .args in (
-      control-read (now (a .q)) (a .given) (now (a .knots)) (s .pre) (b .assemble .ensures) (a .t) (i .span .result) _ refl refl
+      control-read (now (a .q)) (a .given) (now (a .knots)) (s .pre) (b .stored-knots .ensures) (a .t) (i .span .result) _ refl refl
           (rw (k .clamp .ensures) at (i .span .ensures .1 .0)) (i .span .ensures .1 .1 .0) (below i) (w .constants .ensures)
           (x .four .ensures) (c .four2 .ensures),
       refl,

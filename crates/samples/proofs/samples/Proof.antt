@@ -6,8 +6,9 @@ use lib.ListN.{length}
 use Rattle.refusal.proofs.Rows.{number-of}
 use Rattle.outcome.specs.Outcome.{Outcome}
 use Rattle.outcome.proofs.Doors.{leaves, refused, after}
-use Rattle.shape.proofs.Trusted.{numbered-shape, trusted, knots-reach}
+use Rattle.shape.proofs.Trusted.{knots-reach}
 use Rattle.curve.specs.Record.{byRecord}
+use Rattle.curve.proofs.Recheck.{record-sound}
 use Rattle.samples.specs.Samples.{samplesOf, counting, samplesAnswer}
 use Rattle.samples.proofs.Sampled.{count-stays}
 use Rattle.samples.proofs.samples.Statement.{statement}
@@ -24,7 +25,7 @@ answer-samples-requires : tie.Need-answer-samples-requires
 answer-samples-requires c κs =
     let t = c .before .before .before .before .before in
     let r = start-of t .args .t1 in
-    let k = trusted _ (byRecord r .shape) (number-of (sym (t .before .before .check .ensures)) ∙ t .if1 .left) in
+    let k = record-sound r .knots (number-of (sym (t .before .before .check .ensures)) ∙ t .if1 .left) in
     (k .room, knots-reach (r .knots) (r .points) k)
 
 returns-2 : tie.Need-returns-2
@@ -35,7 +36,7 @@ returns-2 c =
     let k = length (samplesOf (byRecord (a .t1) .shape) (a .per)) in
     c .before .before .answer-samples .ensures
     ∙ ap (λ (o : Outcome). counting o k (now (a .count)))
-    (leaves (after (byRecord (a .t1) .rules) (numbered-shape _ _) (number-of (sym (t .before .before .check .ensures)) ∙ t .if1 .left) (record { is = refl })))
+    (leaves (after (byRecord (a .t1) .rules) (record-sound (a .t1) .counted) (number-of (sym (t .before .before .check .ensures)) ∙ t .if1 .left) (record { is = refl })))
 
 pub samples-spec : {M : Type 1} → statement M
 samples-spec =

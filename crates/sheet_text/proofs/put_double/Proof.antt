@@ -11,7 +11,7 @@ unfolding doubleText
 returns c =
     let h = c .before .before .before .before .before in
     joined (c .before .before .before .before .before .before .before .before .before .put .ensures)
-    (rw (← (h .hex-digits .ensures ∙ ap hexText (h .before .bits-of .ensures))) (c .before .before .put2 .ensures))
+    (rw (← (h .hex-digits .ensures ∙ ap hexText (h .before .bits .ensures))) (c .before .before .put2 .ensures))
 
 pub put-double-spec : {M : Type 1} → statement M
 put-double-spec =

@@ -1,4 +1,4 @@
--- `sheet_text::bits_of` meets its contract: what does not equal itself is the one NaN.
+-- `number::bits` meets its contract: what does not equal itself is the one NaN.
 use native.Mathlib.Omega.{arith}
 use mathlib.Core.Path.{_≡_, sym, subst, ap}
 use mathlib.Core.Bool.{false, not}
@@ -6,8 +6,8 @@ use lib.Dec.{T}
 use lib.Ieee.{Float, nan, inf, fin, binary64, eq, ne, isNan, toBits}
 use lib.Ieee.Compare.{differs-from-itself}
 use Rattle.meaning.proofs.Tests.{no}
-use Rattle.sheet_text.proofs.bits_of.Statement.{statement}
-use Rattle.sheet_text.proofs.bits_of.Tie as tie
+use Rattle.number.proofs.bits.Statement.{statement}
+use Rattle.number.proofs.bits.Tie as tie
 
 number : (x : Float) → ne x x ≡ false → T (not (isNan x))
 unfolding ne eq isNan
@@ -22,5 +22,5 @@ returns c = ap (toBits binary64) (sym (differs-from-itself (c .before .args .x) 
 float-to-bits-result : tie.Need-float-to-bits-result
 float-to-bits-result c = number (c .before .args .x) (c .if1 .left)
 
-pub bits-of-spec : {M : Type 1} → statement M
-bits-of-spec = tie.close (tie.spec returns float-to-bits-result (omega arith))
+pub bits-spec : {M : Type 1} → statement M
+bits-spec = tie.close (tie.spec returns float-to-bits-result (omega arith))

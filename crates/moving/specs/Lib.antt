@@ -1,0 +1,2 @@
+-- One control point of a record moved.
+pub mod Moving

@@ -1,0 +1,2 @@
+-- The corners of a polygon.
+pub mod Corners

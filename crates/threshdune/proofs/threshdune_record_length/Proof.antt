@@ -14,9 +14,9 @@ returns : tie.Need-returns
 returns c =
     let l = c .before .before in
     let k = l .before in
-    let x = now (k .before .before .before .before .args .length) in
+    let x = now (k .before .before .before .before .args .answer) in
     c .hand-number .ensures
-    ∙ ap (λ (v : Values). handed v 0 x) (l .length .ensures ∙ ap (λ (m : Curve). lengthAnswer (byRecord m)) (k .read-curve .ensures))
+    ∙ ap (λ (v : Values). handed v 0 x) (l .length .ensures .0 ∙ ap (λ (m : Curve). lengthAnswer (byRecord m)) (k .read-curve .ensures))
 
 pub threshdune-record-length-spec : {M : Type 1} → statement M
 threshdune-record-length-spec =

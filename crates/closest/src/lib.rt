@@ -243,13 +243,7 @@ fn search<'a>(n: usize, xs: &'a [f64; 66], ys: &'a [f64; 66], u: &'a [f64; 70], 
 }
 
 // Why a record is refused for its stored length, if it is; where the point is not finite, that comes first.
-fn check_length<'a>(
-    n: usize,
-    xs: &'a [f64; 66],
-    ys: &'a [f64; 66],
-    length: f64,
-    p: P2,
-) -> Refusal
+fn check_length<'a>(n: usize, xs: &'a [f64; 66], ys: &'a [f64; 66], length: f64, p: P2) -> Refusal
     ensures { λ r. ⌜ r ≡ firstOf (lengthRows (now (xs .entry)) (now (ys .entry)) n length (view p)) ⌝ }
 {
     if !number::both(number::is_finite(p.x), number::is_finite(p.y)) {

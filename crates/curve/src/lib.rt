@@ -54,7 +54,10 @@ pub fn refused(refusal: Refusal) -> Built
 pub fn is_sum(length: f64, sum: f64) -> bool
     ensures { λ r. ⌜ r ≡ isSum length sum ⌝ }
 {
-    number::both(number::is_finite(length), number::bits(length) == number::bits(sum))
+    number::both(
+        number::is_finite(length),
+        number::bits(length) == number::bits(sum),
+    )
 }
 
 // Why a record with n control points, k knots and this length is refused by the rules 2 to 11 and 17, if it is.

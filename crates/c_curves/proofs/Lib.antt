@@ -1,2 +1,3 @@
 -- Numbers handed on, case by case.
 pub mod Handed
+pub mod Rooms

@@ -6,7 +6,7 @@ use Prim.Native.Nat.{ℕ, suc, _+_, _*_, _%_, _≤_, _<_}
 use native.Mathlib.Nat.{mul-one, suc-ne-zero}
 use native.Mathlib.Omega.{arith}
 use borrow.Author.Tests.{eq-eqb, ne-eqb}
-use lib.Dec.{eqb}
+use lib.Dec.{T, eqb}
 use lib.ListN.{length, getD, set, take, drop}
 use lib.Seq.{set-split, set-getD, drop-cons}
 use lib.Ieee.{Float, nan}
@@ -16,7 +16,7 @@ use Rattle.meaning.specs.Search.{listed}
 use Rattle.meaning.proofs.Filling.{length-listed}
 use Rattle.refusal.specs.declared.Refusal.{Refusal}
 use Rattle.refusal.specs.Refusals.{Row, row, refusal, firstOf}
-use Rattle.refusal.proofs.Rows.{Passed, number-of, row-applies, row-passes, row-passed, first-decides, second-decides}
+use Rattle.refusal.proofs.Rows.{Passed, number-of, numbered, row-applies, row-passes, row-passed, first-decides, second-decides}
 use Rattle.outcome.specs.Outcome.{Outcome}
 use Rattle.outcome.specs.declared.Told.{Told}
 use Rattle.outcome.specs.declared.Told.the-variants.{Is, Refused}
@@ -25,8 +25,7 @@ use Rattle.plane.specs.Vector.{Vector}
 use Rattle.shape.specs.Shape.{pointsIn}
 use Rattle.shape.specs.Offered.{Offered}
 use Rattle.shape.specs.Trusting.{trusting}
-use Rattle.shape.proofs.Sound.{Sound}
-use Rattle.curve.specs.declared.Rooms.{Rooms}
+use Rattle.rooms.specs.declared.Rooms.{Rooms}
 use Rattle.many.specs.Many.{placeOf, roomRow, many, answeringMany}
 use Rattle.many.proofs.Rooms.{room-passed}
 use Rattle.many.proofs.Asked.{Keeps, Asked, asked-first, asked-long, asked-next, asked-all, many-refused, many-answered}
@@ -122,7 +121,7 @@ asked-of points e {out} {out′} {refusals} {refusals′} {n} a =
 
 -- ---- the call
 
-module _ (who : Offered) (s : Sound who) (points out : List Float) (refusals : List ℕ) where
+module _ (who : Offered) (t : T (numbered (who .rules))) (points out : List Float) (refusals : List ℕ) where
   abbrev rules : List Row
   rules = manyRules who points (length out) (length refusals)
 
@@ -145,7 +144,7 @@ module _ (who : Offered) (s : Sound who) (points out : List Float) (refusals : L
 
     module _ (p : Passed (who .rules)) {r : Refusal} (e : r ≡ firstOf (roomRow (pointsIn points) 1 (length out) (length refusals) ∷ [])) where
       first : r ≡ firstOf (manyRules who points (length out) (length refusals))
-      first = e ∙ sym (later ∙ second-decides (who .rules) room (s .counted) p)
+      first = e ∙ sym (later ∙ second-decides (who .rules) room t p)
 
       pub room-refused : (r .number ≡ 0 → ⊥) → many r out refusals ≡ closestMany who points out refusals
       room-refused h = refused first h
@@ -158,9 +157,7 @@ module _ (who : Offered) (s : Sound who) (points out : List Float) (refusals : L
       -- each search past the rules is the question by itself
       each-is : (k : ℕ) (place : List Float) → let c = who .shape in
           eachFound (trusting (c .n) (c .xs) (c .ys) (c .knots)) points k place ≡ eachFound who points k place
-      each-is k place =
-          let past = s .parts p in
-          ap (λ (v : Values). handedTo v place) (search-past who s (past .0) (past .1) (pointAt points k))
+      each-is k place = ap (λ (v : Values). handedTo v place) (search-past who t p (pointAt points k))
 
       pub all-found : r .number ≡ 0 → {out′ : List Float} {refusals′ : List ℕ} → let c = who .shape in
           Asked 1 (eachFound (trusting (c .n) (c .xs) (c .ys) (c .knots)) points) out refusals (pointsIn points) out′ refusals′

@@ -13,6 +13,7 @@ use Rattle.meaning.specs.Table.{at1, at2}
 use Rattle.meaning.specs.Loops.{turns, spin}
 use Rattle.meaning.specs.Number.{sizeOf, clampOf}
 use Rattle.refusal.specs.Refusals.{row, firstOf, refusal}
+use Rattle.outcome.specs.Outcome.{eitherWild}
 use Rattle.meaning.proofs.Order.{lt-nan}
 use Rattle.meaning.proofs.Nans.{plus-nan, times-nan}
 use Rattle.span.specs.Span.{spanOf}
@@ -114,7 +115,7 @@ module _ (c : Shape Float) (p : Vector Float) where
 
     pub nan-ends-in-15 : finite (p .x) ≡ true → finite (p .y) ≡ true → firstOf (searchRules c p []) ≡ refusal 15
     nan-ends-in-15 x y =
-        row-passes (row 11 (not (finite (p .x)) || not (finite (p .y)))) _ (rw (x, y))
+        row-passes (row 11 (eitherWild (p .x) (p .y))) _ (rw (x, y))
         ∙ row-applies (row 15 (not (samplesFine c p) || isNan (closestOf c p))) [] (rw last-nan (or-true (not (samplesFine c p))))
       where
         or-true : (b : Bool) → b || true ≡ true

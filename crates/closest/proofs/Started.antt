@@ -4,20 +4,22 @@ use mathlib.Core.Bool.{true, not, _||_}
 use mathlib.Core.List.{List, [], _∷_, _++_}
 use Prim.Native.Nat.{ℕ}
 use borrow.Author.Tests.{not-false}
+use lib.Dec.{T}
 use lib.Ieee.{Float, isNan}
-use lib.Ieee.Scale.{finite}
 use Rattle.meaning.specs.Scalar.{plain}
 use Rattle.meaning.specs.Table.{at1}
 use Rattle.meaning.proofs.Tests.{or-left}
 use Rattle.refusal.specs.Refusals.{row}
-use Rattle.refusal.proofs.Rows.{Passed, number-of, row-passed, both-pass}
+use Rattle.refusal.proofs.Rows.{Passed, number-of, numbered, row-passed, both-pass}
+use Rattle.outcome.specs.Outcome.{eitherWild}
 use Rattle.outcome.specs.Told.{Values, told, telling}
 use Rattle.outcome.specs.declared.Told.the-variants.{Is}
 use Rattle.outcome.proofs.Doors.{passes-true}
 use Rattle.plane.specs.Vector.{Vector}
 use Rattle.shape.specs.Shape.{Shape}
-use Rattle.shape.specs.Offered.{Offered, inSlices}
-use Rattle.shape.proofs.Sound.{Sound, slices-sound}
+use Rattle.shape.specs.Offered.{Offered, inSlices, with11}
+use Rattle.shape.proofs.Sound.{slices-sound}
+use Rattle.shape.proofs.With.{with-numbered}
 use Rattle.curve.specs.declared.Curve.{Curve}
 use Rattle.curve.specs.Record.{byRecord}
 use Rattle.curve.proofs.Recheck.{record-sound}
@@ -31,25 +33,24 @@ pub record FromNearest (c : Shape Float) (p : Vector Float) (t : Float) : Type 0
   pub nearest : IsFirst (distanceAt c p) (samplesIn c) k
   pub rounds : t ≡ newtonFrom c p (at1 plain (samplesIn c) k)
 
-module _ (who : Offered) (p : Vector Float) (t : Float) (n : Sound who) (e : told (Is t) ≡ closestAnswer who p) where
+module _ (who : Offered) (p : Vector Float) (t : Float) (n : T (numbered (who .rules))) (e : told (Is t) ≡ closestAnswer who p) where
   abbrev c : Shape Float
   c = who .shape
 
-  passed : Passed (who .till11 ++ searchRules c p (who .from17))
+  passed : Passed (searchRules c p (who .rules))
   unfolding closestAnswer telling
   passed = number-of (sym (ap (λ (v : Values). v .refusal) e))
 
   all-fine : samplesFine c p ≡ true
   all-fine =
-      let search = both-pass (who .till11) (searchRules c p (who .from17)) (n .early) passed .1 in
-      let stored = row-passed 10 (not (finite (p .x)) || not (finite (p .y))) _ search .1 in
-      let last = both-pass (who .from17) (row 15 (not (samplesFine c p) || isNan (closestOf c p)) ∷ []) (n .late) stored .1 in
+      let wild = eitherWild (p .x) (p .y) in
+      let last = both-pass (with11 wild (who .rules)) (row 15 (not (samplesFine c p) || isNan (closestOf c p)) ∷ []) (with-numbered wild (who .rules) n) passed .1 in
       not-false (samplesFine c p) (or-left (not (samplesFine c p)) (isNan (closestOf c p)) (row-passed 14 _ [] last .0))
 
   is-closest : t ≡ closestOf c p
   unfolding closestAnswer telling
   is-closest =
-      let v : (t ∷ []) ≡ closestOf c p ∷ [] = rw (passes-true (who .till11 ++ searchRules c p (who .from17)) passed) at (ap (λ (v : Values). v .values) e) in
+      let v : (t ∷ []) ≡ closestOf c p ∷ [] = rw (passes-true (searchRules c p (who .rules)) passed) at (ap (λ (v : Values). v .values) e) in
       cc
 
   from-nearest : FromNearest c p t
@@ -58,8 +59,8 @@ module _ (who : Offered) (p : Vector Float) (t : Float) (n : Sound who) (e : tol
 
 -- whatever `closest` and `closest_slices` answer
 pub record-closest : (c : Curve) (p : Vector Float) (t : Float) → told (Is t) ≡ closestAnswer (byRecord c) p → FromNearest (byRecord c .shape) p t
-record-closest c p t e = from-nearest (byRecord c) p t (record-sound c) e
+record-closest c p t e = from-nearest (byRecord c) p t (record-sound c .counted) e
 
 pub slices-closest : (coords ks : List Float) (p : Vector Float) (t : Float) → told (Is t) ≡ closestAnswer (inSlices coords ks) p
     → FromNearest (inSlices coords ks .shape) p t
-slices-closest coords ks p t e = from-nearest (inSlices coords ks) p t (slices-sound coords ks) e
+slices-closest coords ks p t e = from-nearest (inSlices coords ks) p t (slices-sound coords ks .counted) e

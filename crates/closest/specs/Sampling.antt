@@ -1,16 +1,10 @@
 -- Inner: the samples one after the other, as the code's loop takes them, which only private contracts cite. The struct `Best` is the nearest sample so far,
 -- its distance and the square of that, and whether every distance so far is finite.
-use mathlib.Core.Bool.{true, false, not, _&&_, _||_, cond}
+use mathlib.Core.Bool.{true, false, not, _&&_, cond}
 use mathlib.Core.List.{List, [], _∷_}
-use Prim.Native.Nat.{ℕ}
 use lib.Ieee.{Float, inf, lt, le}
-use lib.Ieee.Scale.{finite}
-use Rattle.meaning.specs.Scalar.{plain}
-use Rattle.refusal.specs.Refusals.{Row, row}
 use Rattle.plane.specs.Vector.{Vector}
 use Rattle.shape.specs.Shape.{Shape}
-use Rattle.polygon.specs.Polygon.{lengthOf}
-use Rattle.curve.specs.Record.{isSum}
 use Rattle.point.specs.Point.{pointOrders}
 use Rattle.distance.specs.Distance.{squareOf}
 use Rattle.closest.specs.Search.{orderIn, from, samplesIn, distanceAt}
@@ -41,7 +35,3 @@ module _ (c : Shape Float) (p : Vector Float) where
   -- after the last
   unfoldable pub bestSample : Best
   bestSample = through sampled (samplesIn c) unsampled
-
--- what is left to judge of a record past the rules 2 to 11, before its samples are
-abbrev pub lengthRows : List Float → List Float → ℕ → Float → Vector Float → List Row
-lengthRows xs ys n length p = row 11 (not (finite (p .x)) || not (finite (p .y))) ∷ row 17 (not (isSum length (lengthOf plain xs ys n))) ∷ []

@@ -15,7 +15,8 @@ use Rattle.meaning.specs.Number.{sizeOf, clampOf}
 use Rattle.refusal.specs.Refusals.{Row, row}
 use Rattle.plane.specs.Vector.{Vector, subV, dotV}
 use Rattle.shape.specs.Shape.{Shape}
-use Rattle.shape.specs.Offered.{Offered}
+use Rattle.shape.specs.Offered.{Offered, with11}
+use Rattle.outcome.specs.Outcome.{eitherWild}
 use Rattle.outcome.specs.Told.{Values, telling}
 use Rattle.point.specs.Point.{pointOrders}
 use Rattle.samples.specs.Samples.{samplesOf}
@@ -95,11 +96,9 @@ module _ (c : Shape Float) (p : Vector Float) where
   unfoldable pub closestOf : Float
   closestOf = newtonFrom nearestSample
 
-  -- 11 is the point's, too, and so comes before 17
+  -- the curve's rules, with 11 for the point, then 15
   abbrev pub searchRules : List Row → List Row
-  searchRules from17 =
-      row 11 (not (finite (p .x)) || not (finite (p .y)))
-      ∷ (from17 ++ (row 15 (not samplesFine || isNan closestOf) ∷ []))
+  searchRules rules = with11 (eitherWild (p .x) (p .y)) rules ++ (row 15 (not samplesFine || isNan closestOf) ∷ [])
 
 unfoldable pub closestAnswer : Offered → Vector Float → Values
-closestAnswer who p = telling (who .till11 ++ searchRules (who .shape) p (who .from17)) (closestOf (who .shape) p ∷ [])
+closestAnswer who p = telling (searchRules (who .shape) p (who .rules)) (closestOf (who .shape) p ∷ [])

@@ -6,7 +6,6 @@ ghost use Rattle.meaning.specs.Scalar.{plain};
 ghost use Rattle.meaning.specs.Table.{at1};
 ghost use Rattle.meaning.specs.Search.{listed};
 ghost use Rattle.knots.proofs.Accepted.{Accepted};
-ghost use Rattle.refusal.specs.Refusals.{firstOf};
 ghost use Rattle.plane.specs.View.{view};
 ghost use Rattle.outcome.specs.Told.{told};
 ghost use Rattle.shape.specs.Shape.{pointsIn};
@@ -18,7 +17,7 @@ ghost use Rattle.closest.specs.Search.{slopeAt, roundOf, newtonFrom, clo
 ghost use Rattle.many.specs.Many.{many};
 ghost use Rattle.many.proofs.Asked.{Asked};
 ghost use Rattle.closest.specs.Many.{Room, eachFound, closestMany};
-ghost use Rattle.closest.specs.Sampling.{through, sampled, bestSample, lengthRows};
+ghost use Rattle.closest.specs.Sampling.{through, sampled, bestSample};
 use curve::Curve;
 use knots::Form;
 use outcome::Told;
@@ -225,10 +224,7 @@ fn search<'a>(n: usize, xs: &'a [f64; 66], ys: &'a [f64; 66], u: &'a [f64; 70], 
     requires { ⌜ Accepted (take (n + 4) (now u)) n ⌝ }
     ensures { λ r. ⌜ told r ≡ closestAnswer (trusting n (now (xs .entry)) (now (ys .entry)) (now (u .entry))) (view p) ⌝ }
 {
-    if !number::is_finite(p.x) {
-        return Told::Refused(refusal::by(11));
-    }
-    if !number::is_finite(p.y) {
+    if outcome::either_wild(p.x, p.y) {
         return Told::Refused(refusal::by(11));
     }
     let best = sample_all(u, n, xs, ys, p);
@@ -242,31 +238,23 @@ fn search<'a>(n: usize, xs: &'a [f64; 66], ys: &'a [f64; 66], u: &'a [f64; 70], 
     Told::Is(t)
 }
 
-// Why a record is refused for its stored length, if it is; where the point is not finite, that comes first.
-fn check_length<'a>(n: usize, xs: &'a [f64; 66], ys: &'a [f64; 66], length: f64, p: P2) -> Refusal
-    ensures { λ r. ⌜ r ≡ firstOf (lengthRows (now (xs .entry)) (now (ys .entry)) n length (view p)) ⌝ }
-{
-    if !number::both(number::is_finite(p.x), number::is_finite(p.y)) {
-        return refusal::by(11);
-    }
-    if !curve::is_sum(length, polygon::length(n, xs, ys)) {
-        return refusal::by(17);
-    }
-    refusal::by(0)
-}
-
 // The parameter of the curve's point that lies nearest to (px, py), as far as samples and Newton's rounds find it. The curve is checked again.
 // Corresponds to spline.rs: closest_param.
 pub fn closest(c: Curve, px: f64, py: f64) -> Told
     ensures { λ r. ⌜ told r ≡ closestAnswer (byRecord c) (record { x = px; y = py }) ⌝ }
 {
-    let r = shape::check(c.points, c.knot_count, &c.xs, &c.ys, &c.knots);
+    let wild = outcome::either_wild(px, py);
+    let r = curve::check_with(
+        c.points,
+        c.knot_count,
+        c.length,
+        &c.xs,
+        &c.ys,
+        &c.knots,
+        wild,
+    );
     if r.number != 0 {
         return Told::Refused(r);
-    }
-    let q = check_length(c.points, &c.xs, &c.ys, c.length, P2 { x: px, y: py });
-    if q.number != 0 {
-        return Told::Refused(q);
     }
     search(c.points, &c.xs, &c.ys, &c.knots, P2 { x: px, y: py })
 }
@@ -279,7 +267,7 @@ pub fn closest_slices(coords: &[f64], knots: &[f64], px: f64, py: f64) -> Told
     if r.number != 0 {
         return Told::Refused(r);
     }
-    let made = curve::in_rooms(coords, true, knots);
+    let made = rooms::in_rooms(coords, true, knots);
     search(
         made.points,
         &made.xs,
@@ -376,7 +364,7 @@ pub fn closest_many_slices(
     if q.number != 0 {
         return q;
     }
-    let made = curve::in_rooms(coords, true, knots);
+    let made = rooms::in_rooms(coords, true, knots);
     search_each(
         made.points,
         &made.xs,

@@ -24,10 +24,11 @@ use Rattle.shape.proofs.Trusted.{counted-all, all-tame}
 use Rattle.shape.proofs.Handles.{handles-passed-knots, handles-tame, given-front}
 use Rattle.shape.proofs.Sound.{others-finite}
 use Rattle.curve.specs.Record.{shapeIn, byRecord}
-use Rattle.curve.specs.Build.{storedKnots, controlCurve}
+use Rattle.rooms.specs.Filled.{storedKnots}
+use Rattle.curve.specs.Build.{controlCurve}
 use Rattle.curve.proofs.Recheck.{measured-passes}
 use Rattle.curve.proofs.Builds.{build-parts}
-use Rattle.curve.proofs.Roomy.{room-of}
+use Rattle.rooms.proofs.Roomy.{room-of}
 use Rattle.control.specs.Control.{controlFine}
 use Rattle.control.specs.Rules.{controlRules}
 

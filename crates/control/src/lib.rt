@@ -19,7 +19,7 @@ pub fn build_control(coords: &[f64], given: bool, knots: &[f64], short: bool) ->
     if short {
         return curve::refused(refusal::by(14));
     }
-    let s = curve::in_rooms(coords, given, knots);
+    let s = rooms::in_rooms(coords, given, knots);
     let xs = s.xs;
     let ys = s.ys;
     let u = s.knots;

@@ -1,5 +1,4 @@
 -- The rules of a record, and what a build answers.
 pub mod Recheck
 pub mod Builds
-pub mod Roomy
 pub mod Put

@@ -1,7 +1,7 @@
 -- The rules of a record, from its parts, and what they tell of one that they let through. Assumes nothing.
 use mathlib.Core.Path.{_≡_, refl, sym, ap, _∙_}
-use mathlib.Core.Bool.{true, false, not}
-use mathlib.Core.List.{[], _∷_}
+use mathlib.Core.Bool.{Bool, true, false, not}
+use mathlib.Core.List.{[], _∷_, _++_}
 use Prim.Native.Nat.{ℕ}
 use borrow.Author.Tests.{eq-eqb, eqb-true, not-false}
 use lib.Dec.{T}
@@ -16,6 +16,7 @@ use Rattle.refusal.proofs.Rows.{Passed, number-of, numbered, row-applies, row-p
 use Rattle.knots.specs.Rules.{knotRules}
 use Rattle.shape.specs.Shape.{Shape}
 use Rattle.shape.specs.Rules.{shapeRules}
+use Rattle.shape.specs.Offered.{with11}
 use Rattle.shape.proofs.Trusted.{numbered-shape}
 use Rattle.shape.proofs.Sound.{Sound, rooms-sound}
 use Rattle.polygon.proofs.Corners.{length-double}
@@ -40,22 +41,30 @@ module _ (k : ℕ) (s : Shape Float) (length : Float) where
   unfolding recordRules shapeRules knotRules
   numbered-record = tt
 
-  module _ {r : Refusal} (known : r ≡ firstOf (shapeRules k s)) where
-    pub shape-refused : (r .number ≡ 0 → ⊥) → r ≡ firstOf (recordRules k s length)
-    unfolding recordRules
-    shape-refused h = known ∙ sym (first-decides (shapeRules k s) _ (λ z. h (number-of known ∙ z)))
+  module _ (wild : Bool) {r : Refusal} (known : r ≡ firstOf (shapeRules k s)) where
+    -- where 11 for a point stands
+    between : with11 wild (recordRules k s length) ≡ shapeRules k s ++ (row 11 wild ∷ row 17 (not (isSum length (lengthIn s))) ∷ [])
+    unfolding recordRules shapeRules knotRules
+    between = refl
+
+    pub shape-refused : (r .number ≡ 0 → ⊥) → r ≡ firstOf (with11 wild (recordRules k s length))
+    shape-refused h = known ∙ sym (ap firstOf between ∙ first-decides (shapeRules k s) _ (λ z. h (number-of known ∙ z)))
 
     module _ (passed : r .number ≡ 0) where
-      left : firstOf (recordRules k s length) ≡ firstOf (row 17 (not (isSum length (lengthIn s))) ∷ [])
-      unfolding recordRules
-      left = second-decides (shapeRules k s) _ (numbered-shape k s) (number-of (sym known) ∙ passed)
+      left : firstOf (with11 wild (recordRules k s length)) ≡ firstOf (row 11 wild ∷ row 17 (not (isSum length (lengthIn s))) ∷ [])
+      left = ap firstOf between ∙ second-decides (shapeRules k s) _ (numbered-shape k s) (number-of (sym known) ∙ passed)
 
-      pub length-refused : isSum length (lengthIn s) ≡ false → refusal 17 ≡ firstOf (recordRules k s length)
-      length-refused h = sym (left ∙ row-applies _ [] (ap not h))
+      pub point-refused : wild ≡ true → refusal 11 ≡ firstOf (with11 wild (recordRules k s length))
+      point-refused h = sym (left ∙ row-applies _ _ h)
 
-      pub length-kept : isSum length (lengthIn s) ≡ true → r ≡ firstOf (recordRules k s length)
-      length-kept h =
-          known ∙ passed-none (shapeRules k s) (numbered-shape k s) (number-of (sym known) ∙ passed) ∙ sym (left ∙ row-passes _ [] (ap not h) ∙ no-rows)
+      module _ (tame : wild ≡ false) where
+        pub length-refused : isSum length (lengthIn s) ≡ false → refusal 17 ≡ firstOf (with11 wild (recordRules k s length))
+        length-refused h = sym (left ∙ row-passes _ _ tame ∙ row-applies _ [] (ap not h))
+
+        pub length-kept : isSum length (lengthIn s) ≡ true → r ≡ firstOf (with11 wild (recordRules k s length))
+        length-kept h =
+            known ∙ passed-none (shapeRules k s) (numbered-shape k s) (number-of (sym known) ∙ passed)
+            ∙ sym (left ∙ row-passes _ _ tame ∙ row-passes _ [] (ap not h) ∙ no-rows)
 
   -- what passes them
   pub record-parts : Passed (recordRules k s length) → Passed (shapeRules k s) × (isSum length (lengthIn s) ≡ true)
@@ -66,7 +75,9 @@ module _ (k : ℕ) (s : Shape Float) (length : Float) where
 
 -- a shape that its rules let through is let through with its own length, where that is finite
 pub measured-passes : (k : ℕ) (s : Shape Float) → Passed (shapeRules k s) → finite (lengthIn s) ≡ true → Passed (recordRules k s (lengthIn s))
-measured-passes k s z h = number-of (sym (length-kept k s (lengthIn s) refl z (sum-itself (lengthIn s) h))) ∙ z
+unfolding recordRules
+measured-passes k s z h =
+    number-of (second-decides (shapeRules k s) _ (numbered-shape k s) z ∙ row-passes _ [] (ap not (sum-itself (lengthIn s) h)) ∙ no-rows)
 
 -- ---- a record
 
@@ -77,9 +88,6 @@ record-sound c =
     let shape : Passed (byRecord c .rules) → Passed (shapeRules k (shapeIn c)) = λ h. record-parts k (shapeIn c) (c .length) h .0 in
     record {
       counted = numbered-record k (shapeIn c) (c .length);
-      early = numbered-shape k (shapeIn c);
-      late = tt;
-      parts = λ h. (shape h, number-of (row-passes _ [] (ap not (record-parts k (shapeIn c) (c .length) h .1)) ∙ no-rows));
       knots = λ h. s .knots (shape h);
       xs = λ h. s .xs (shape h);
       ys = λ h. s .ys (shape h);

@@ -1,13 +1,12 @@
 -- What a build of a curve answers, and the curve of control points. docs/RULES.md, "Refusals" and "Uniform knots", decide.
 use mathlib.Core.Bool.{Bool, not, cond}
 use mathlib.Core.List.{List, [], _∷_, _++_}
-use Prim.Native.Nat.{ℕ}
 use lib.Ieee.{Float}
 use Rattle.refusal.specs.Refusals.{Row, row, firstOf, passes}
 use Rattle.knots.specs.declared.Form.{Form}
-use Rattle.uniform.specs.Uniform.{uniformOf}
-use Rattle.shape.specs.Shape.{pointsIn, everyOther, givenKnots}
+use Rattle.shape.specs.Shape.{pointsIn, everyOther}
 use Rattle.shape.specs.Rules.{handleRules}
+use Rattle.rooms.specs.Filled.{storedKnots}
 use Rattle.curve.specs.declared.Curve.{Curve}
 use Rattle.curve.specs.declared.Built.{Built}
 use Rattle.curve.specs.Record.{emptyCurve, curveOver}
@@ -24,10 +23,6 @@ unfoldable pub buildRules : Form → List Float → Bool → List Float → Bool
 buildRules form coords given ks short fine = roomRules form coords given ks short ++ (row 15 (not fine) ∷ [])
 
 -- ---- control points
-
--- the knots in their room of 70: those given, or the uniform ones
-abbrev pub storedKnots : ℕ → Bool → List Float → List Float
-storedKnots n given ks = cond given (givenKnots n ks) (uniformOf n)
 
 abbrev pub controlCurve : List Float → Bool → List Float → Curve
 controlCurve coords given ks =

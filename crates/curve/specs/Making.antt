@@ -1,14 +1,11 @@
--- Inner: how a build goes on past the rules 1 to 14, and the rooms that it fills from slices.
+-- Inner: how a build goes on past the rules 1 to 14.
 use mathlib.Core.Bool.{Bool, not, _&&_}
 use mathlib.Core.List.{List, [], _∷_}
-use lib.Ieee.{Float}
 use lib.Ieee.Scale.{finite}
 use Rattle.refusal.specs.Refusals.{Row, row}
-use Rattle.shape.specs.Shape.{pointsIn, everyOther}
 use Rattle.curve.specs.declared.Curve.{Curve}
 use Rattle.curve.specs.declared.Built.{Built}
-use Rattle.curve.specs.declared.Rooms.{Rooms}
-use Rattle.curve.specs.Build.{building, storedKnots}
+use Rattle.curve.specs.Build.{building}
 
 -- 15 alone is left, where `fine` tells whether every stored number is finite
 abbrev pub lastRule : Bool → List Row
@@ -17,9 +14,3 @@ lastRule fine = row 15 (not fine) ∷ []
 -- the curve, where `fine` tells it of all but the length
 abbrev pub measuring : Bool → Curve → Built
 measuring fine c = building (lastRule (fine && finite (c .length))) c
-
--- control points x, y in turn, and knots if they are given, else uniform ones
-abbrev pub roomsOf : List Float → Bool → List Float → Rooms
-roomsOf coords given ks =
-    let n = pointsIn coords in
-    record { points = n; xs = everyOther coords n 0; ys = everyOther coords n 1; knots = storedKnots n given ks }

@@ -29,19 +29,13 @@ isSum length sum = finite length && eqb (toBits binary64 length) (toBits binary6
 abbrev pub shapeIn : Curve → Shape Float
 shapeIn c = record { n = c .points; xs = c .xs; ys = c .ys; knots = c .knots }
 
--- 17 for the length beside a shape
-abbrev pub lengthRules : Shape Float → Float → List Row
-lengthRules s length = row 17 (not (isSum length (lengthIn s))) ∷ []
-
--- the rules 2 to 11 for a shape that counts k knots, then 17
+-- the rules 2 to 11 for a shape that counts k knots, then 17 for the length beside it
 unfoldable pub recordRules : ℕ → Shape Float → Float → List Row
-recordRules k s length = shapeRules k s ++ lengthRules s length
+recordRules k s length = shapeRules k s ++ (row 17 (not (isSum length (lengthIn s))) ∷ [])
 
 -- a record as it is offered: checked again by every question
 abbrev pub byRecord : Curve → Offered
-byRecord c =
-    let s = shapeIn c in
-    record { rules = recordRules (c .«knot_count») s (c .length); till11 = shapeRules (c .«knot_count») s; from17 = lengthRules s (c .length); shape = s }
+byRecord c = record { rules = recordRules (c .«knot_count») (shapeIn c) (c .length); shape = shapeIn c }
 
 -- its counts are 0, its length and all its entries +0.0
 abbrev pub emptyCurve : Curve

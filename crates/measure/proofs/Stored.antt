@@ -24,9 +24,6 @@ pub stored-double : (k : Curve) (vs : List Val) → shadow (row the-type .own k 
 stored-double k vs h = let o = h .1 .1 in subst T (sym (o .1 .1 .0 .1)) tt
 
 module _ (c : Curve) where
-  abbrev stored : Values
-  stored = telling (byRecord c .rules) (c .length ∷ [])
-
   pub length-refused : {r : Refusal} → r ≡ firstOf (byRecord c .rules) → (r .number ≡ 0 → ⊥)
       → (untold r ≡ lengthAnswer (byRecord c)) × (untold r ≡ telling (byRecord c .rules) (c .length ∷ []))
   unfolding lengthAnswer

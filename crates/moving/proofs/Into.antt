@@ -3,25 +3,30 @@ use mathlib.Core.Path.{_≡_, refl, sym, ap, _∙_}
 use mathlib.Core.Bool.{Bool, cond}
 use mathlib.Core.List.{List}
 use mathlib.Core.Logic.{_⊎_, inl, inr}
-use Prim.Native.Nat.{ℕ, _-_, _≤_}
+use Prim.Native.Nat.{ℕ, _-_, _≤_, zero-le}
+use native.Mathlib.Nat.{min-le-right, min-eq-left}
 use native.Mathlib.Omega.{arith}
 use borrow.Author.Tests.{ltb-false}
 use lib.Dec.{ltb}
-use lib.ListN.{length, set, length-set}
+use lib.ListN.{length, take, length-take}
+use lib.Seq.{take-paste}
 use lib.Ieee.{Float}
 use Rattle.meaning.proofs.Tests.{or-left, or-right}
+use Rattle.refusal.specs.declared.Refusal.{Refusal}
 use Rattle.refusal.specs.Refusals.{Row, passes}
 use Rattle.refusal.proofs.Rows.{Passed, number-of}
 use Rattle.buffer.specs.Pasted.{pasted}
+use Rattle.outcome.specs.Outcome.{answering}
 use Rattle.outcome.proofs.Doors.{passes-true, passes-false}
-use Rattle.shape.specs.Offered.{inRooms}
-use Rattle.shape.proofs.Sound.{AllFinite, Sound, rooms-sound}
+use Rattle.shape.proofs.Sound.{AllFinite}
 use Rattle.curve.specs.declared.Curve.{Curve}
 use Rattle.curve.specs.declared.Built.{Built}
+use Rattle.curve.specs.Record.{recordRules}
+use Rattle.curve.proofs.Recheck.{record-sound}
 use Rattle.curve.proofs.Builds.{built-refusal, built-passed, built-curve}
 use Rattle.curve.proofs.Put.{put-built}
-use Rattle.moving.specs.Moving.{moved, moveRules, movedBy, movedOut, lacksRoom, movedInto}
-use Rattle.moving.proofs.Accepted.{there, parts}
+use Rattle.moving.specs.Moving.{MovedOut, moved, moveRules, movedBy, movedOut, lacksRoom, movedInto}
+use Rattle.moving.proofs.Accepted.{there, parts, xs-finite, ys-finite, moved-passes}
 
 module _ (c : Curve) (i : ℕ) (x y : Float) (xs ys : List Float) (l : Float) where
   abbrev rules : List Row
@@ -32,22 +37,20 @@ module _ (c : Curve) (i : ℕ) (x y : Float) (xs ys : List Float) (l : Float) wh
 
   -- the record has all its control points, and there is room for them
   module _ (passed : Passed rules) where
-    sound : Sound (inRooms (c .points) (c .«knot_count») (c .xs) (c .ys) (c .knots))
-    sound = rooms-sound (c .points) (c .«knot_count») (c .xs) (c .ys) (c .knots)
+    all : (cs : List Float) → AllFinite (c .points) cs → c .points ≤ length cs
+    all cs f =
+        let four = record-sound c .knots (parts c i x y (lacksRoom c xs ys) passed .0) .four in
+        omega (arith, there cs (c .points - 1) (f (c .points - 1) (omega arith)))
 
-    all : (cs : List Float) (z : Float) → AllFinite (c .points) cs → c .points ≤ length (set cs i z)
-    all cs z f =
-        let p = parts c i x y (lacksRoom c xs ys) passed in
-        let four = sound .knots (p .0) .four in
-        omega (arith, there cs (c .points - 1) (f (c .points - 1) (omega arith)), length-set cs i z)
+    room-xs : (c .points ≤ length (new .xs)) × (c .points ≤ length xs)
+    room-xs =
+        let s = lacksRoom c xs ys in
+        (all (new .xs) (xs-finite c i x y s passed), ltb-false _ _ (or-left _ _ (parts c i x y s passed .3)))
 
-    room-xs : (c .points ≤ length (set (c .xs) i x)) × (c .points ≤ length xs)
-    room-xs = let p = parts c i x y (lacksRoom c xs ys) passed in (all (c .xs) x (sound .xs (p .0)), ltb-false _ _ (or-left _ _ (p .3)))
-
-    room-ys : (c .points ≤ length (set (c .ys) i y)) × (c .points ≤ length ys)
+    room-ys : (c .points ≤ length (new .ys)) × (c .points ≤ length ys)
     room-ys =
-        let p = parts c i x y (lacksRoom c xs ys) passed in
-        (all (c .ys) y (sound .ys (p .0)), ltb-false _ _ (or-right (ltb (length xs) (c .points)) _ (p .3)))
+        let s = lacksRoom c xs ys in
+        (all (new .ys) (ys-finite c i x y s passed), ltb-false _ _ (or-right (ltb (length xs) (c .points)) _ (parts c i x y s passed .3)))
 
   module _ {b : Built} {short : Bool} (told : short ≡ lacksRoom c xs ys) (answer : b ≡ movedBy c i x y short) where
     is : b ≡ movedBy c i x y (lacksRoom c xs ys)
@@ -65,3 +68,40 @@ module _ (c : Curve) (i : ℕ) (x y : Float) (xs ys : List Float) (l : Float) wh
           | inr h ↦ h .1 ∙ rw (passes-false rules (λ z. h .0 (number-of (built-refusal _ _ is) ∙ z)))
         ] in
         λ k. movedOut (built-refusal _ _ is k) (first k) (second k) (third k)
+
+  -- numbers that were written stand at the front
+  front : Passed rules → (numbers out : List Float) → c .points ≤ length numbers → take (c .points) (answering rules numbers (c .points) out .out) ≡ take (c .points) numbers
+  unfolding answering
+  front z numbers out h = rw (passes-true rules z) (take-paste out 0 numbers (c .points) zero-le h)
+
+  -- an outcome that is no refusal
+  module _ {r : Refusal} {xs′ ys′ : List Float} {l′ : Float} (e : movedOut r xs′ ys′ l′ ≡ movedInto c i x y xs ys l) (z : r .number ≡ 0) where
+    passed : Passed rules
+    passed = number-of (sym (ap (λ (o : MovedOut). o .refusal) e)) ∙ z
+
+    first : take (c .points) xs′ ≡ take (c .points) (new .xs)
+    first = ap (λ (o : MovedOut). take (c .points) (o .xs)) e ∙ front passed (new .xs) xs (room-xs passed .0)
+
+    second : take (c .points) ys′ ≡ take (c .points) (new .ys)
+    second = ap (λ (o : MovedOut). take (c .points) (o .ys)) e ∙ front passed (new .ys) ys (room-ys passed .0)
+
+    long : (l₁ l₂ : List Float) → take (c .points) l₁ ≡ take (c .points) l₂ → c .points ≤ length l₂ → c .points ≤ length l₁
+    long l₁ l₂ same h =
+        let n = c .points in
+        omega (arith, sym (length-take n l₁) ∙ ap length same ∙ length-take n l₂, min-le-right n (length l₁), min-eq-left h)
+
+    -- there are no more control points than a record has room for, and all were written
+    pub into-room : (c .points ≤ 66) × (c .points ≤ length xs′) × (c .points ≤ length ys′)
+    into-room = (
+      record-sound c .knots (parts c i x y (lacksRoom c xs ys) passed .0) .room,
+      long xs′ (new .xs) first (room-xs passed .0),
+      long ys′ (new .ys) second (room-ys passed .0),
+    )
+
+    -- So a record that begins with what was written, with the length that was, and over the same knots passes the rules by which every question
+    -- checks one.
+    pub into-accepted : (ps qs : List Float) → take (c .points) ps ≡ take (c .points) xs′ → take (c .points) qs ≡ take (c .points) ys′
+        → Passed (recordRules (c .«knot_count») (record { n = c .points; xs = ps; ys = qs; knots = c .knots }) l′)
+    into-accepted ps qs p q =
+        let same : l′ ≡ new .length = ap (λ (o : MovedOut). o .length) e ∙ rw (passes-true rules passed) in
+        rw same (moved-passes c i x y (lacksRoom c xs ys) passed ps qs (p ∙ first) (q ∙ second))

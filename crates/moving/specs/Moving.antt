@@ -1,5 +1,5 @@
 -- One control point of a record moved. docs/RULES.md, "Moving a control point", decides.
-use mathlib.Core.Bool.{Bool, not, _&&_, _||_, cond}
+use mathlib.Core.Bool.{Bool, not, _||_, cond}
 use mathlib.Core.List.{List, [], _∷_, _++_}
 use Prim.Native.Nat.{ℕ}
 use lib.Dec.{ltb}
@@ -9,12 +9,12 @@ use lib.Ieee.Scale.{finite}
 use Rattle.meaning.specs.Scalar.{plain}
 use Rattle.refusal.specs.declared.Refusal.{Refusal}
 use Rattle.refusal.specs.Refusals.{Row, row, firstOf, passes}
-use Rattle.outcome.specs.Outcome.{answering}
-use Rattle.shape.specs.Rules.{shapeRules}
+use Rattle.outcome.specs.Outcome.{eitherWild, answering}
+use Rattle.shape.specs.Offered.{with11}
 use Rattle.polygon.specs.Polygon.{lengthOf}
 use Rattle.curve.specs.declared.Curve.{Curve}
 use Rattle.curve.specs.declared.Built.{Built}
-use Rattle.curve.specs.Record.{lengthIn, isSum, shapeIn}
+use Rattle.curve.specs.Record.{byRecord}
 use Rattle.curve.specs.Build.{building}
 
 -- the curve with control point i at (x, y): that point and the length are new, and all else is as it was
@@ -31,17 +31,11 @@ moved c i x y =
       knots = c .knots;
     }
 
--- The record's 2 to 11, and 11 for the moved point; 17 for the record's length, and for the index; then that no lent slice is short, and that the
--- new length is finite.
+-- The record's rules, with 11 for the moved point; 17 for the index; then that no lent slice is short, and that the new length is finite.
 unfoldable pub moveRules : Curve → ℕ → Float → Float → Bool → List Row
 moveRules c i x y short =
-    shapeRules (c .«knot_count») (shapeIn c)
-    ++ (row 11 (not (finite x && finite y))
-    ∷ row 17 (not (isSum (c .length) (lengthIn (shapeIn c))))
-    ∷ row 17 (not (ltb i (c .points)))
-    ∷ row 14 short
-    ∷ row 15 (not (finite (moved c i x y .length)))
-    ∷ [])
+    with11 (eitherWild x y) (byRecord c .rules)
+    ++ (row 17 (not (ltb i (c .points))) ∷ row 14 short ∷ row 15 (not (finite (moved c i x y .length))) ∷ [])
 
 -- what a move answers, where `short` tells whether a lent slice is
 abbrev pub movedBy : Curve → ℕ → Float → Float → Bool → Built

@@ -33,15 +33,18 @@ fn with_point(c: Curve, index: usize, x: f64, y: f64) -> Curve
 fn move_with(c: Curve, index: usize, x: f64, y: f64, short: bool) -> Built
     ensures { λ r. ⌜ r ≡ movedBy c index x y short ⌝ }
 {
-    let r = shape::check(c.points, c.knot_count, &c.xs, &c.ys, &c.knots);
+    let wild = outcome::either_wild(x, y);
+    let r = curve::check_with(
+        c.points,
+        c.knot_count,
+        c.length,
+        &c.xs,
+        &c.ys,
+        &c.knots,
+        wild,
+    );
     if r.number != 0 {
         return curve::refused(r);
-    }
-    if !number::both(number::is_finite(x), number::is_finite(y)) {
-        return curve::refused(refusal::by(11));
-    }
-    if !curve::is_sum(c.length, polygon::length(c.points, &c.xs, &c.ys)) {
-        return curve::refused(refusal::by(17));
     }
     if index >= c.points {
         return curve::refused(refusal::by(17));

@@ -1,5 +1,5 @@
 -- What a call leaves behind that answers numbers in a lent slice: the first refusal that applies and the slice as it was, or the numbers.
-use mathlib.Core.Bool.{Bool, not, cond}
+use mathlib.Core.Bool.{Bool, not, _||_, cond}
 use mathlib.Core.List.{List, [], _∷_}
 use Prim.Native.Nat.{ℕ}
 use lib.ListN.{length}
@@ -16,6 +16,10 @@ use Rattle.refusal.specs.Refusals.{Row, row, firstOf, passes}
 -- one of the first k numbers is not finite
 abbrev pub someWild : List Float → ℕ → Bool
 someWild l k = some 0 k (λ i. not (finite (at1 plain l i)))
+
+-- one of two numbers is not, the coordinates of a point that a question has of its own
+abbrev pub eitherWild : Float → Float → Bool
+eitherWild x y = not (finite x) || not (finite y)
 
 -- the last two rules of such a call: there is room for k numbers, and each of them is finite
 abbrev pub deliveryRules : List Float → ℕ → List Float → List Row

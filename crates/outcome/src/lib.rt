@@ -8,7 +8,7 @@ ghost use Rattle.meaning.specs.Scalar.{plain};
 ghost use Rattle.meaning.specs.Table.{at1};
 ghost use Rattle.meaning.specs.Search.{seek};
 ghost use Rattle.meaning.specs.Nowhere.{Nowhere};
-ghost use Rattle.outcome.specs.Outcome.{deliveryRules, outcome, answering};
+ghost use Rattle.outcome.specs.Outcome.{eitherWild, deliveryRules, outcome, answering};
 use refusal::Refusal;
 
 // A number, or why there is none.
@@ -55,6 +55,13 @@ pub fn first_wild(a: &[f64], k: usize) -> usize
         return k;
     }
     seek_wild(a, k)
+}
+
+// Whether x or y is not finite.
+pub fn either_wild(x: f64, y: f64) -> bool
+    ensures { λ r. ⌜ r ≡ eitherWild x y ⌝ }
+{
+    number::either(!number::is_finite(x), !number::is_finite(y))
 }
 
 // The first k of the numbers, where there is room for them and each is finite; a number that is not there is not.

@@ -1,6 +1,6 @@
 -- Tables of refusals, row by row and one after the other. Assumes nothing.
 use mathlib.Core.Path.{_≡_, refl, sym, ap, _∙_}
-use mathlib.Core.Bool.{Bool, true, false, _&&_}
+use mathlib.Core.Bool.{Bool, true, false, _&&_, cond}
 use mathlib.Core.List.{List, [], _∷_, _++_}
 use Prim.Native.Nat.{ℕ, zero, suc}
 use native.Mathlib.Nat.{suc-ne-zero}
@@ -32,6 +32,11 @@ module _ (r : Row) (rs : List Row) where
   unfolding firstOf
   row-passes h = rw h
 
+-- a row before tables that say the same
+pub same-after : (r : Row) (a b : List Row) → firstOf a ≡ firstOf b → firstOf (r ∷ a) ≡ firstOf (r ∷ b)
+unfolding firstOf
+same-after r a b e = ap (cond (r .applies) (r .refusal)) e
+
 pub no-rows : firstOf [] ≡ none
 unfolding firstOf
 no-rows = refl
@@ -61,23 +66,37 @@ not-zero : (k : ℕ) → T (above k) → k ≡ 0 → ⊥
 not-zero zero h e = h
 not-zero (suc k) h e = omega arith
 
+pub rest-numbered : (r : Row) (rs : List Row) → T (numbered (r ∷ rs)) → T (numbered rs)
+rest-numbered r rs h = both (above (r .refusal .number)) (numbered rs) h .1
+
+-- the same row before others
+pub other-rest : (r : Row) (a b : List Row) → (T (numbered a) → T (numbered b)) → T (numbered (r ∷ a)) → T (numbered (r ∷ b))
+other-rest r a b f h = by (above (r .refusal .number)) h
+  where
+    by : (x : Bool) → T (x && numbered a) → T (x && numbered b)
+    by true h = f h
+    by false h = h
+
+-- what passes numbered rows passes the first and the rest
+pub head-passed : (r : Row) (rs : List Row) → T (numbered (r ∷ rs)) → Passed (r ∷ rs) → (r .applies ≡ false) × Passed rs
+head-passed r rs h e =
+    by-two (r .applies)
+    (λ p. absurd (not-zero (r .refusal .number) (both (above (r .refusal .number)) (numbered rs) h .0) (number-of (sym (row-applies r rs p)) ∙ e)))
+    (λ p. (p, number-of (sym (row-passes r rs p)) ∙ e))
+
 -- nothing in the first applies: the second decides
 pub second-decides : (a b : List Row) → T (numbered a) → Passed a → firstOf (a ++ b) ≡ firstOf b
 second-decides [] b h e = refl
 second-decides (r ∷ rs) b h e =
-    by-two (r .applies)
-    (λ p. absurd (not-zero (r .refusal .number) (both (above (r .refusal .number)) (numbered rs) h .0) (number-of (sym (row-applies r rs p)) ∙ e)))
-    (λ p.
-    row-passes r (rs ++ b) p
-    ∙ second-decides rs b (both (above (r .refusal .number)) (numbered rs) h .1) (number-of (sym (row-passes r rs p)) ∙ e))
+    let q = head-passed r rs h e in
+    row-passes r (rs ++ b) (q .0) ∙ second-decides rs b (rest-numbered r rs h) (q .1)
 
 -- nothing applies
 pub passed-none : (a : List Row) → T (numbered a) → Passed a → firstOf a ≡ none
 passed-none [] h e = no-rows
 passed-none (r ∷ rs) h e =
-    by-two (r .applies)
-    (λ p. absurd (not-zero (r .refusal .number) (both (above (r .refusal .number)) (numbered rs) h .0) (number-of (sym (row-applies r rs p)) ∙ e)))
-    (λ p. row-passes r rs p ∙ passed-none rs (both (above (r .refusal .number)) (numbered rs) h .1) (number-of (sym (row-passes r rs p)) ∙ e))
+    let q = head-passed r rs h e in
+    row-passes r rs (q .0) ∙ passed-none rs (rest-numbered r rs h) (q .1)
 
 -- something in the first applies
 pub first-decides : (a b : List Row) → Refused a → firstOf (a ++ b) ≡ firstOf a

@@ -27,8 +27,8 @@ use Rattle.shape.specs.Shape.{Shape, pointsIn}
 use Rattle.shape.specs.Rules.{handleRules}
 use Rattle.shape.proofs.Handles.{slices-trusted}
 use Rattle.evaluate.specs.Piece.{fourOf}
-use Rattle.curve.specs.Build.{storedKnots}
-use Rattle.curve.proofs.Roomy.{room-of}
+use Rattle.rooms.specs.Filled.{storedKnots}
+use Rattle.rooms.proofs.Roomy.{room-of}
 use Rattle.fit_partials.specs.Variables.{variablesOf}
 use Rattle.residual.specs.declared.Piece.{Piece}
 use Rattle.residual.specs.Curve.{controlShape, spanIn}

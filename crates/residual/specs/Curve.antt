@@ -15,7 +15,7 @@ use Rattle.knots.specs.declared.Form.the-variants.{Control, Fit}
 use Rattle.span.specs.Span.{spanOf}
 use Rattle.shape.specs.Shape.{Shape, pointsIn}
 use Rattle.evaluate.specs.Point.{orderAt}
-use Rattle.curve.specs.Build.{storedKnots}
+use Rattle.rooms.specs.Filled.{storedKnots}
 use Rattle.fit.specs.Parameters.{pointAt}
 use Rattle.fit.specs.Fit.{controlsFor}
 use Rattle.fit_partials.specs.Variables.{variablesOf}

@@ -14,7 +14,7 @@ use Rattle.partials.specs.Dual.{partOf, dual}
 use Rattle.refusal.specs.declared.Refusal.{Refusal}
 use Rattle.refusal.specs.Refusals.{Row, row, firstOf, passes}
 use Rattle.knots.specs.declared.Form.{Form}
-use Rattle.outcome.specs.Outcome.{answering}
+use Rattle.outcome.specs.Outcome.{eitherWild, answering}
 use Rattle.shape.specs.Shape.{pointsIn}
 use Rattle.shape.specs.Rules.{handleRules}
 use Rattle.solve.specs.Stored.{allFine}
@@ -68,7 +68,7 @@ unfolding handleRules
 askedRules a =
     row 1 (not (eqb (length (a .handles) % 2) 0)) ∷ row 4 (ltb 12 (pointsIn (a .handles)))
     ∷ (handleRules (a .form) (a .handles) (a .given) (a .knots)
-    ++ (row 11 (not (finite (a .px)) || not (finite (a .py))) ∷ row 12 (not (finite (a .t))) ∷ []))
+    ++ (row 11 (eitherWild (a .px) (a .py)) ∷ row 12 (not (finite (a .t))) ∷ []))
 
 -- 14 after them
 abbrev pub roomRules : Asked → Lent → List Row

@@ -84,7 +84,7 @@ fn control_piece(q: &[f64], given: bool, knots: &[f64], t: f64) -> Piece
     ensures { λ r. ⌜ r .fine ≡ true ⌝ }
 {
     let n = q.len() / 2;
-    let u = curve::stored_knots(n, given, knots);
+    let u = rooms::stored_knots(n, given, knots);
     let lo = u[0];
     let hi = u[n + 3];
     let i = span::span(&u, n, number::clamp(t, lo, hi));

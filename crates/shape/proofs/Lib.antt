@@ -2,3 +2,4 @@
 pub mod Trusted
 pub mod Handles
 pub mod Sound
+pub mod With

@@ -1,5 +1,5 @@
 -- What its rules tell of a curve that they let through, in rooms or in slices: its knots are accepted, and its coordinates are finite. Assumes nothing.
-use mathlib.Core.Path.{_≡_, ap, _∙_}
+use mathlib.Core.Path.{_≡_, refl, sym, ap, _∙_}
 use mathlib.Core.Bool.{true, false, _||_}
 use mathlib.Core.List.{List, []}
 use Prim.Native.Nat.{ℕ, _+_, _*_, _≤_, _<_}
@@ -13,17 +13,17 @@ use Rattle.meaning.specs.Scalar.{plain}
 use Rattle.meaning.specs.Table.{at1}
 use Rattle.meaning.proofs.Filling.{nth-listed}
 use Rattle.meaning.proofs.Tests.{or-left, or-right}
-use Rattle.refusal.proofs.Rows.{Passed, number-of, numbered, row-passed, no-rows, both-pass}
+use Rattle.refusal.proofs.Rows.{Passed, number-of, numbered, row-passed, both-pass}
 use Rattle.knots.specs.declared.Form.the-variants.{Control}
 use Rattle.knots.specs.Rules.{knotRules}
 use Rattle.knots.proofs.Accepted.{Accepted, accepted}
 use Rattle.knots.proofs.Refused.{numbered-knots}
 use Rattle.outcome.specs.Outcome.{someWild}
-use Rattle.outcome.proofs.Wild.{each-finite}
+use Rattle.outcome.proofs.Wild.{each-finite, none-wild}
 use Rattle.shape.specs.Shape.{Shape, pointsIn, everyOther}
 use Rattle.shape.specs.Rules.{countedKnots, shapeRules, handleRules}
 use Rattle.shape.specs.Offered.{Offered, inRooms, inSlices}
-use Rattle.shape.proofs.Trusted.{numbered-shape, trusted}
+use Rattle.shape.proofs.Trusted.{numbered-shape, all-tame, trusted}
 use Rattle.shape.proofs.Handles.{numbered-handles, handles-passed-knots, handles-tame, slices-trusted}
 
 abbrev pub AllFinite : ℕ → List Float → Type 0
@@ -31,9 +31,6 @@ AllFinite n cs = (j : ℕ) → j < n → finite (at1 plain cs j) ≡ true
 
 pub record Sound (who : Offered) : Type 0 where
   pub counted : T (numbered (who .rules))
-  pub early : T (numbered (who .till11))
-  pub late : T (numbered (who .from17))
-  pub parts : Passed (who .rules) → Passed (who .till11) × Passed (who .from17)
   pub knots : Passed (who .rules) → Accepted (take (who .shape .n + 4) (who .shape .knots)) (who .shape .n)
   pub xs : Passed (who .rules) → AllFinite (who .shape .n) (who .shape .xs)
   pub ys : Passed (who .rules) → AllFinite (who .shape .n) (who .shape .ys)
@@ -49,13 +46,18 @@ rooms-sound n k xs ys us =
     let s = inRooms n k xs ys us .shape in
     record {
       counted = numbered-shape k s;
-      early = numbered-shape k s;
-      late = tt;
-      parts = λ h. (h, number-of no-rows);
       knots = trusted k s;
       xs = λ h. each-finite xs n (or-left _ _ (tame k s h));
       ys = λ h. each-finite ys n (or-right (someWild xs n) _ (tame k s h));
     }
+
+-- other control points over the same knots, all of them finite
+pub other-points : (n k : ℕ) (xs ys xs′ ys′ us : List Float) → Passed (inRooms n k xs ys us .rules) → AllFinite n xs′ → AllFinite n ys′
+    → Passed (inRooms n k xs′ ys′ us .rules)
+unfolding shapeRules
+other-points n k xs ys xs′ ys′ us h f g =
+    let z = both-pass (knotRules Control n true (countedKnots k us)) _ (numbered-knots Control n true _) h .0 in
+    number-of (sym (all-tame k (inRooms n k xs′ ys′ us .shape) refl z (none-wild xs′ n f) (none-wild ys′ n g))) ∙ z
 
 -- ---- in slices
 
@@ -74,9 +76,6 @@ slices-sound coords ks =
     others-finite coords off (accepted ks (pointsIn coords) (handles-passed-knots Control coords true ks h) .room) o (handles-tame Control coords true ks h) in
     record {
       counted = numbered-handles Control coords true ks;
-      early = numbered-handles Control coords true ks;
-      late = tt;
-      parts = λ h. (h, number-of no-rows);
       knots = slices-trusted coords ks;
       xs = fine 0 (omega arith);
       ys = fine 1 (omega arith);

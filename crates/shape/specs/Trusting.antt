@@ -6,4 +6,4 @@ use Rattle.shape.specs.Offered.{Offered}
 
 -- nothing is left that would refuse it
 abbrev pub trusting : ℕ → List Float → List Float → List Float → Offered
-trusting n xs ys us = record { rules = []; till11 = []; from17 = []; shape = record { n = n; xs = xs; ys = ys; knots = us } }
+trusting n xs ys us = record { rules = []; shape = record { n = n; xs = xs; ys = ys; knots = us } }

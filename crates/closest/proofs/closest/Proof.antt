@@ -1,49 +1,48 @@
--- `closest::closest` meets its contract: the rules of the record, the point's between them, then the answer.
+-- `closest::closest` meets its contract: the rules of the record with the point's among them, then the answer.
 use native.Mathlib.Omega.{arith}
-use mathlib.Core.Path.{sym, _∙_}
-use Rattle.refusal.proofs.Rows.{Passed, number-of, row-passed}
+use mathlib.Core.Path.{_≡_, sym, ap, _∙_}
+use mathlib.Core.Bool.{Bool}
+use Rattle.refusal.specs.Refusals.{firstOf}
+use Rattle.refusal.proofs.Rows.{Passed, number-of}
+use Rattle.outcome.specs.Outcome.{eitherWild}
 use Rattle.outcome.proofs.Doors.{tells, refused-told}
-use Rattle.shape.proofs.Trusted.{trusted}
-use Rattle.curve.specs.Record.{shapeIn, byRecord}
+use Rattle.shape.specs.Offered.{with11}
+use Rattle.shape.proofs.With.{with-passed}
+use Rattle.curve.specs.Record.{byRecord}
 use Rattle.curve.proofs.Recheck.{record-sound}
 use Rattle.closest.specs.Search.{closestAnswer}
-use Rattle.closest.proofs.Past.{search-past, length-told}
+use Rattle.closest.proofs.Past.{search-past}
 use Rattle.closest.proofs.closest.Statement.{statement}
 use Rattle.closest.proofs.closest.Tie as tie
 
-abbrev start-of : tie.Else1 → tie.Start
-start-of c = c .before .before .before .before .before .before .before
+abbrev start-of : tie.After-check-with → tie.Start
+start-of c = c .before .before .before .before .before .before
 
--- past the rules 2 to 11
-passed : (c : tie.Else1) → Passed (byRecord (start-of c .args .t1) .till11)
-passed c = number-of (sym (c .before .before .check .ensures)) ∙ c .if1 .left
+-- what the check tells
+known : (c : tie.After-check-with) → let a = start-of c .args in
+    c .check-with .result ≡ firstOf (with11 (eitherWild (a .px) (a .py)) (byRecord (a .t1) .rules))
+known c = c .check-with .ensures ∙ ap (λ (w : Bool). firstOf (with11 w (byRecord (start-of c .args .t1) .rules))) (c .before .before .before .before .before .either-wild .ensures)
+
+passed : (c : tie.Else1) → Passed (byRecord (start-of (c .before .before) .args .t1) .rules)
+passed c =
+    let k = c .before .before in
+    let a = start-of k .args in
+    with-passed (eitherWild (a .px) (a .py)) _ (record-sound (a .t1) .counted) (number-of (sym (known k)) ∙ c .if1 .left) .1
 
 returns : tie.Need-returns
 unfolding closestAnswer
-returns c = tells (refused-told _ _ (c .before .before .check .ensures) (c .if1 .taken))
-
-abbrev shape-of : tie.After-check-length → tie.Else1
-shape-of c = c .before .before .before .before
-
-returns-2 : tie.Need-returns-2
-returns-2 c =
-    let l = c .before .before in
-    let e = shape-of l in
-    length-told (start-of e .args .t1) _ (passed e) (l .check-length .ensures) (c .if2 .taken)
+returns c = tells (refused-told _ _ (known (c .before .before)) (c .if1 .taken))
 
 search-requires : tie.Need-search-requires
 search-requires c κs =
-    let e = shape-of (c .before .before .before .before .before .before) in
-    trusted _ (shapeIn (start-of e .args .t1)) (passed e)
+    let t = c .before .before .before .before in
+    record-sound (start-of (t .before .before) .args .t1) .knots (passed t)
 
-returns-3 : tie.Need-returns-3
-returns-3 c =
+returns-2 : tie.Need-returns-2
+returns-2 c =
     let t = c .before .before .before .before .before in
-    let l = t .before .before in
-    let e = shape-of l in
-    let r = start-of e .args .t1 in
-    let late = row-passed 10 _ _ (number-of (sym (l .check-length .ensures)) ∙ t .if2 .left) .1 in
-    c .search .ensures ∙ search-past (byRecord r) (record-sound r) (passed e) late _
+    let r = start-of (t .before .before) .args .t1 in
+    c .search .ensures ∙ search-past (byRecord r) (record-sound r .counted) (passed t) _
 
 pub closest-spec : {M : Type 1} → statement M
-closest-spec = tie.close (tie.spec (omega arith) returns (omega arith) returns-2 search-requires returns-3)
+closest-spec = tie.close (tie.spec (omega arith) (omega arith) returns search-requires returns-2)

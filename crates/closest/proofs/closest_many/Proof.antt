@@ -21,13 +21,13 @@ passed c = number-of (sym (c .before .before .check .ensures)) ∙ c .if2 .left
 returns : tie.Need-returns
 returns c =
     let a = c .before .before .before .before .before .args in
-    odd-points (byRecord (a .t1)) (record-sound (a .t1)) (now (a .points)) (now (a .out)) (now (a .refusals)) (c .before .if1 .taken) (c .by .ensures)
+    odd-points (byRecord (a .t1)) (record-sound (a .t1) .counted) (now (a .points)) (now (a .out)) (now (a .refusals)) (c .before .if1 .taken) (c .by .ensures)
 
 returns-2 : tie.Need-returns-2
 returns-2 c =
     let e = c .before .before .before .before .before .before .before in
     let a = start-of e .args in
-    curve-refused (byRecord (a .t1)) (record-sound (a .t1)) (now (a .points)) (now (a .out)) (now (a .refusals)) (e .if1 .left) (c .before .before .check .ensures)
+    curve-refused (byRecord (a .t1)) (record-sound (a .t1) .counted) (now (a .points)) (now (a .out)) (now (a .refusals)) (e .if1 .left) (c .before .before .check .ensures)
     (c .if2 .taken)
 
 returns-3 : tie.Need-returns-3
@@ -35,7 +35,7 @@ returns-3 c =
     let q = c .before .before in
     let t = q .before in
     let a = start-of (even-of t) .args in
-    room-refused (byRecord (a .t1)) (record-sound (a .t1)) (now (a .points)) (now (a .out)) (now (a .refusals)) (even-of t .if1 .left) (passed t)
+    room-refused (byRecord (a .t1)) (record-sound (a .t1) .counted) (now (a .points)) (now (a .out)) (now (a .refusals)) (even-of t .if1 .left) (passed t)
     (q .room .ensures) (c .if3 .taken)
 
 search-each-requires : tie.Need-search-each-requires
@@ -45,7 +45,7 @@ search-each-requires c κs =
     let t = q .before in
     let a = start-of (even-of t) .args in (
       record-sound (a .t1) .knots (passed t),
-      room-for (byRecord (a .t1)) (record-sound (a .t1)) (now (a .points)) (now (a .out)) (now (a .refusals)) (even-of t .if1 .left) (passed t)
+      room-for (byRecord (a .t1)) (record-sound (a .t1) .counted) (now (a .points)) (now (a .out)) (now (a .refusals)) (even-of t .if1 .left) (passed t)
           (q .room .ensures) (z .if3 .left),
     )
 
@@ -56,7 +56,7 @@ returns-4 c =
     let q = z .before .before in
     let t = q .before in
     let a = start-of (even-of t) .args in
-    all-found (byRecord (a .t1)) (record-sound (a .t1)) (now (a .points)) (now (a .out)) (now (a .refusals)) (even-of t .if1 .left) (passed t)
+    all-found (byRecord (a .t1)) (record-sound (a .t1) .counted) (now (a .points)) (now (a .out)) (now (a .refusals)) (even-of t .if1 .left) (passed t)
     (q .room .ensures) (z .if3 .left) (s .search-each .ensures)
 
 pub closest-many-spec : {M : Type 1} → statement M

@@ -22,14 +22,14 @@ passed c = number-of (sym (c .before .before .check-handles .ensures)) ∙ c .if
 returns : tie.Need-returns
 returns c =
     let a = c .before .before .before .before .before .before .before .args in
-    odd-points (inSlices (now (a .coords)) (now (a .knots))) (slices-sound _ _) (now (a .points)) (now (a .out)) (now (a .refusals))
+    odd-points (inSlices (now (a .coords)) (now (a .knots))) (slices-sound _ _ .counted) (now (a .points)) (now (a .out)) (now (a .refusals))
     (c .before .if1 .taken) (c .by .ensures)
 
 returns-2 : tie.Need-returns-2
 returns-2 c =
     let b = c .before .before in
     let a = start-of (b .before) .args in
-    curve-refused (inSlices (now (a .coords)) (now (a .knots))) (slices-sound _ _) (now (a .points)) (now (a .out)) (now (a .refusals))
+    curve-refused (inSlices (now (a .coords)) (now (a .knots))) (slices-sound _ _ .counted) (now (a .points)) (now (a .out)) (now (a .refusals))
     (b .before .if1 .left) (b .check-handles .ensures) (c .if2 .taken)
 
 returns-3 : tie.Need-returns-3
@@ -37,7 +37,7 @@ returns-3 c =
     let q = c .before .before in
     let t = q .before in
     let a = start-of (even-of t) .args in
-    room-refused (inSlices (now (a .coords)) (now (a .knots))) (slices-sound _ _) (now (a .points)) (now (a .out)) (now (a .refusals))
+    room-refused (inSlices (now (a .coords)) (now (a .knots))) (slices-sound _ _ .counted) (now (a .points)) (now (a .out)) (now (a .refusals))
     (even-of t .if1 .left) (passed t) (q .room .ensures) (c .if3 .taken)
 
 search-each-requires : tie.Need-search-each-requires
@@ -48,7 +48,7 @@ search-each-requires c κs =
     let t = q .before in
     let a = start-of (even-of t) .args in (
       rw (m .in-rooms .ensures) (slices-trusted (now (a .coords)) (now (a .knots)) (passed t)),
-      room-for (inSlices (now (a .coords)) (now (a .knots))) (slices-sound _ _) (now (a .points)) (now (a .out)) (now (a .refusals))
+      room-for (inSlices (now (a .coords)) (now (a .knots))) (slices-sound _ _ .counted) (now (a .points)) (now (a .out)) (now (a .refusals))
           (even-of t .if1 .left) (passed t) (q .room .ensures) (z .if3 .left),
     )
 
@@ -61,7 +61,7 @@ returns-4 c =
     let t = q .before in
     let a = start-of (even-of t) .args in
     let points = now (a .points) in
-    all-found (inSlices (now (a .coords)) (now (a .knots))) (slices-sound _ _) points (now (a .out)) (now (a .refusals))
+    all-found (inSlices (now (a .coords)) (now (a .knots))) (slices-sound _ _ .counted) points (now (a .out)) (now (a .refusals))
     (even-of t .if1 .left) (passed t) (q .room .ensures) (z .if3 .left)
     (asked-of points (m .in-rooms .ensures) (s .search-each .ensures))
 

@@ -2,13 +2,13 @@
 use native.Mathlib.Omega.{arith}
 use mathlib.Core.Path.{sym, ap, _∙_}
 use denote.Ref.{now}
-use Rattle.refusal.proofs.Rows.{Passed, number-of, no-rows}
+use Rattle.refusal.proofs.Rows.{Passed, number-of}
 use Rattle.outcome.proofs.Doors.{tells, refused-told}
 use Rattle.shape.specs.Offered.{inSlices}
 use Rattle.shape.specs.Trusting.{trusting}
 use Rattle.shape.proofs.Handles.{slices-trusted}
 use Rattle.shape.proofs.Sound.{slices-sound}
-use Rattle.curve.specs.declared.Rooms.{Rooms}
+use Rattle.rooms.specs.declared.Rooms.{Rooms}
 use Rattle.closest.specs.Search.{closestAnswer}
 use Rattle.closest.proofs.Past.{search-past}
 use Rattle.closest.proofs.closest_slices.Statement.{statement}
@@ -37,7 +37,7 @@ returns-2 c =
     let who = inSlices (now (a .coords)) (now (a .knots)) in
     c .search .ensures
     ∙ ap (λ (k : Rooms). closestAnswer (trusting (k .points) (k .xs) (k .ys) (k .knots)) (record { x = a .px; y = a .py })) (m .in-rooms .ensures)
-    ∙ search-past who (slices-sound (now (a .coords)) (now (a .knots))) (passed (m .before)) (number-of no-rows) _
+    ∙ search-past who (slices-sound (now (a .coords)) (now (a .knots)) .counted) (passed (m .before)) _
 
 pub closest-slices-spec : {M : Type 1} → statement M
 closest-slices-spec = tie.close (tie.spec (omega arith) returns (omega arith) search-requires returns-2)

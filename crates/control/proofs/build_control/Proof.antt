@@ -8,7 +8,7 @@ use denote.Ref.{now}
 use lib.Dec.{ltb}
 use Rattle.knots.specs.declared.Form.the-variants.{Control}
 use Rattle.outcome.specs.Outcome.{someWild}
-use Rattle.curve.specs.declared.Rooms.{Rooms}
+use Rattle.rooms.specs.declared.Rooms.{Rooms}
 use Rattle.curve.specs.Record.{curveOver}
 use Rattle.curve.specs.Making.{measuring}
 use Rattle.curve.proofs.Builds.{unbuilt, built-refused, handles-refused, too-short, long-enough, room-refused, build-left}

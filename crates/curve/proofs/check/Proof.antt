@@ -1,37 +1,12 @@
--- `curve::check` meets its contract: the rules of the shape, then the length.
-use mathlib.Core.Path.{_≡_, sym, ap, _∙_}
-use mathlib.Core.Bool.{Bool}
+-- `curve::check` meets its contract.
+use mathlib.Core.Path.{_∙_}
 use native.Mathlib.Omega.{arith}
-use borrow.Author.Tests.{not-true, not-false}
-use denote.Ref.{now}
-use Rattle.meaning.specs.Scalar.{plain}
-use Rattle.polygon.specs.Polygon.{lengthOf}
-use Rattle.curve.specs.Record.{isSum}
-use Rattle.curve.proofs.Recheck.{shape-refused, length-refused, length-kept}
+use Rattle.shape.proofs.With.{with-none}
 use Rattle.curve.proofs.check.Statement.{statement}
 use Rattle.curve.proofs.check.Tie as tie
 
--- past the rules of the shape, and the verdict on the length
-abbrev else-of : tie.After-is-sum → tie.Else1
-else-of c = c .before .before .before .before
-
-judged : (c : tie.After-is-sum) {t : Bool} → c .is-sum .result ≡ t
-    → let a = else-of c .before .before .before .args in isSum (a .length) (lengthOf plain (now (a .xs)) (now (a .ys)) (a .n)) ≡ t
-judged c e = sym (c .is-sum .ensures ∙ ap (isSum (else-of c .before .before .before .args .length)) (c .before .length .ensures)) ∙ e
-
 returns : tie.Need-returns
-returns c = let k = c .before .before in shape-refused _ _ (k .before .args .length) (k .check .ensures) (c .if1 .taken)
-
-returns-2 : tie.Need-returns-2
-returns-2 c =
-    let s = c .before .before in
-    let t = else-of s in
-    c .by .ensures ∙ length-refused _ _ _ (t .before .before .check .ensures) (t .if1 .left) (judged s (not-true _ (c .before .if2 .taken)))
-
-returns-3 : tie.Need-returns-3
-returns-3 c =
-    let t = else-of (c .before) in
-    length-kept _ _ _ (t .before .before .check .ensures) (t .if1 .left) (judged (c .before) (not-false _ (c .if2 .left)))
+returns c = c .check-with .ensures ∙ with-none _
 
 pub check-spec : {M : Type 1} → statement M
-check-spec = tie.close (tie.spec (omega arith) returns (omega arith) (omega arith) (omega arith) returns-2 returns-3)
+check-spec = tie.close (tie.spec (omega arith) returns)

@@ -1,4 +1,4 @@
--- `curve::in_rooms` meets its contract.
+-- `rooms::in_rooms` meets its contract.
 use mathlib.Core.Path.{_≡_, ap, _∙_}
 use mathlib.Core.List.{List}
 use Prim.Native.Nat.{ℕ, _/_, _*_, _≤_, min}
@@ -8,9 +8,9 @@ use denote.Ref.{now}
 use lib.ListN.{length}
 use lib.Ieee.{Float}
 use Rattle.shape.specs.Shape.{pointsIn, everyOther}
-use Rattle.curve.proofs.Roomy.{most-others}
-use Rattle.curve.proofs.in_rooms.Statement.{statement}
-use Rattle.curve.proofs.in_rooms.Tie as tie
+use Rattle.rooms.proofs.Roomy.{most-others}
+use Rattle.rooms.proofs.in_rooms.Statement.{statement}
+use Rattle.rooms.proofs.in_rooms.Tie as tie
 
 -- as many points as there is room for, and as there are
 few : (c : tie.After-most) → let n = c .most .result in

@@ -1,4 +1,4 @@
--- `curve::every_other` meets its contract: a turn copies one number.
+-- `rooms::every_other` meets its contract: a turn copies one number.
 use native.Mathlib.Omega.{arith}
 use mathlib.Core.Path.{refl, _∙_}
 use Prim.Native.Nat.{_+_, _-_, _*_}
@@ -8,8 +8,8 @@ use Rattle.meaning.specs.Table.{at1}
 use Rattle.meaning.proofs.For.{At, first, next, last}
 use Rattle.meaning.proofs.Filling.{set-front}
 use Rattle.shape.specs.Shape.{everyOther}
-use Rattle.curve.proofs.every_other.Statement.{statement}
-use Rattle.curve.proofs.every_other.Tie as tie
+use Rattle.rooms.proofs.every_other.Statement.{statement}
+use Rattle.rooms.proofs.every_other.Tie as tie
 
 abbrev Inv-loop : tie.InvT-loop
 Inv-loop coords n off a₀ i₀ a i = At 0 n (λ j l. set l j (at1 plain coords (2 * j + off))) a₀ i a

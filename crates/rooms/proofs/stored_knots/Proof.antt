@@ -1,11 +1,11 @@
--- `curve::stored_knots` meets its contract.
+-- `rooms::stored_knots` meets its contract.
 use mathlib.Core.Path.{_∙_}
 use native.Mathlib.Omega.{arith}
 use borrow.Author.Tests.{not-true, not-false}
 use denote.Ref.{now}
-use Rattle.curve.proofs.Roomy.{too-many-knots}
-use Rattle.curve.proofs.stored_knots.Statement.{statement}
-use Rattle.curve.proofs.stored_knots.Tie as tie
+use Rattle.rooms.proofs.Roomy.{too-many-knots}
+use Rattle.rooms.proofs.stored_knots.Statement.{statement}
+use Rattle.rooms.proofs.stored_knots.Tie as tie
 
 returns : tie.Need-returns
 returns c = c .uniform .ensures ∙ rw (not-true (c .before .before .before .args .given) (c .before .if1 .taken))

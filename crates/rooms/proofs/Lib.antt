@@ -1,0 +1,2 @@
+-- How many numbers there is room for.
+pub mod Roomy

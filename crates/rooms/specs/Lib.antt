@@ -1,0 +1,2 @@
+-- A curve's numbers in the rooms of a record.
+pub mod Filled

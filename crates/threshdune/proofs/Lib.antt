@@ -1,0 +1,2 @@
+-- What C gets from one function, another accepts.
+pub mod Moved

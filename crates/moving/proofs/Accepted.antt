@@ -1,6 +1,6 @@
 -- What a move answers, every question accepts: the moved record passes its own rules. Assumes nothing.
 use mathlib.Core.Path.{_≡_, refl, sym, ap, _∙_, subst}
-use mathlib.Core.Bool.{Bool, true, false}
+use mathlib.Core.Bool.{Bool, true, false, not}
 use mathlib.Core.List.{List, []}
 use Prim.Native.Nat.{ℕ, _<_}
 use borrow.Author.Tests.{eqb-true, eqb-false, ltb-true, ltb-false, not-false}
@@ -64,7 +64,7 @@ module _ (c : Curve) (i : ℕ) (x y : Float) (short : Bool) (passed : Passed (mo
   xs-finite = still-finite n (c .xs) i x (parts .2) (record-sound c .xs (parts .0)) (not-false _ (or-left _ _ (parts .1)))
 
   pub ys-finite : AllFinite (c .points) (moved c i x y .ys)
-  ys-finite = still-finite n (c .ys) i y (parts .2) (record-sound c .ys (parts .0)) (not-false _ (or-right _ _ (parts .1)))
+  ys-finite = still-finite n (c .ys) i y (parts .2) (record-sound c .ys (parts .0)) (not-false _ (or-right (not (finite x)) _ (parts .1)))
 
   -- a record with the moved control points, whatever it has behind them, and with the length
   pub moved-passes : (xs ys : List Float) → take (c .points) xs ≡ take (c .points) (moved c i x y .xs) → take (c .points) ys ≡ take (c .points) (moved c i x y .ys)

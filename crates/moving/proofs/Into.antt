@@ -3,13 +3,12 @@ use mathlib.Core.Path.{_≡_, refl, sym, ap, _∙_}
 use mathlib.Core.Bool.{Bool, cond}
 use mathlib.Core.List.{List}
 use mathlib.Core.Logic.{_⊎_, inl, inr}
-use Prim.Native.Nat.{ℕ, _-_, _≤_, zero-le}
-use native.Mathlib.Nat.{min-le-right, min-eq-left}
+use Prim.Native.Nat.{ℕ, _-_, _≤_}
+use native.Mathlib.Nat.{le-refl, min-le-right, min-eq-left}
 use native.Mathlib.Omega.{arith}
 use borrow.Author.Tests.{ltb-false}
 use lib.Dec.{ltb}
 use lib.ListN.{length, take, length-take}
-use lib.Seq.{take-paste}
 use lib.Ieee.{Float}
 use Rattle.meaning.proofs.Tests.{or-left, or-right}
 use Rattle.refusal.specs.declared.Refusal.{Refusal}
@@ -17,7 +16,7 @@ use Rattle.refusal.specs.Refusals.{Row, passes}
 use Rattle.refusal.proofs.Rows.{Passed, number-of}
 use Rattle.buffer.specs.Pasted.{pasted}
 use Rattle.outcome.specs.Outcome.{answering}
-use Rattle.outcome.proofs.Doors.{passes-true, passes-false}
+use Rattle.outcome.proofs.Doors.{passes-true, passes-false, put-first}
 use Rattle.shape.proofs.Sound.{AllFinite}
 use Rattle.curve.specs.declared.Curve.{Curve}
 use Rattle.curve.specs.declared.Built.{Built}
@@ -72,7 +71,7 @@ module _ (c : Curve) (i : ℕ) (x y : Float) (xs ys : List Float) (l : Float) wh
   -- numbers that were written stand at the front
   front : Passed rules → (numbers out : List Float) → c .points ≤ length numbers → take (c .points) (answering rules numbers (c .points) out .out) ≡ take (c .points) numbers
   unfolding answering
-  front z numbers out h = rw (passes-true rules z) (take-paste out 0 numbers (c .points) zero-le h)
+  front z numbers out h = rw (passes-true rules z) (put-first (c .points) (c .points) out numbers (le-refl (c .points)) h)
 
   -- an outcome that is no refusal
   module _ {r : Refusal} {xs′ ys′ : List Float} {l′ : Float} (e : movedOut r xs′ ys′ l′ ≡ movedInto c i x y xs ys l) (z : r .number ≡ 0) where

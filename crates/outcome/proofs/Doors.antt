@@ -7,8 +7,8 @@ use native.Mathlib.Nat.{suc-ne-zero}
 use native.Mathlib.Omega.{arith}
 use borrow.Author.Tests.{le-leb, eq-eqb, ne-eqb}
 use lib.Dec.{T}
-use lib.ListN.{length}
-use lib.Seq.{paste}
+use lib.ListN.{length, take, drop, take-append-drop}
+use lib.Seq.{paste, length-take-le, take-append-le}
 use lib.Ieee.{Float}
 use Rattle.buffer.specs.Pasted.{pasted}
 use Rattle.refusal.specs.declared.Refusal.{Refusal}
@@ -71,6 +71,12 @@ module _ {numbers : List Float} {k : ℕ} {out : List Float} where
 pub put-all : (numbers : List Float) (k : ℕ) (out : List Float) → k ≤ length numbers → k ≤ length out → pasted numbers k out 0 ≡ paste out 0 numbers k
 unfolding pasted
 put-all numbers k out g h = rw (le-leb k (length numbers) g, le-leb 0 (length out) (omega arith), le-leb k (length out - 0) (omega arith))
+
+-- the first n of them stand at the front
+pub put-first : (n k : ℕ) (out numbers : List Float) → n ≤ k → k ≤ length numbers → take n (paste out 0 numbers k) ≡ take n numbers
+put-first n k out numbers h g =
+    let few : n ≤ length (take k numbers) = omega (arith, length-take-le k numbers g) in
+    take-append-le n (take k numbers) _ few ∙ sym (take-append-le n (take k numbers) (drop k numbers) few) ∙ ap (take n) (take-append-drop k numbers)
 
 -- numbers that were delivered are those that they are equal to
 pub delivered-as : (k : ℕ) (out : List Float) {l l′ : List Float} {o : Outcome} → l ≡ l′ → o ≡ answering (deliveryRules l k out) l k out → Leaves (deliveryRules l′ k out) l′ k out o

@@ -3,14 +3,13 @@ use native.Mathlib.Omega.{arith}
 use mathlib.Core.Path.{sym, ap, _∙_}
 use denote.Ref.{now}
 use Rattle.refusal.proofs.Rows.{Passed, number-of}
-use Rattle.outcome.proofs.Doors.{tells, refused-told}
 use Rattle.shape.specs.Offered.{inSlices}
 use Rattle.shape.specs.Trusting.{trusting}
 use Rattle.shape.proofs.Handles.{slices-trusted}
 use Rattle.shape.proofs.Sound.{slices-sound}
 use Rattle.rooms.specs.declared.Rooms.{Rooms}
 use Rattle.closest.specs.Search.{closestAnswer}
-use Rattle.closest.proofs.Past.{search-past}
+use Rattle.closest.proofs.Past.{search-past, slices-refused}
 use Rattle.closest.proofs.closest_slices.Statement.{statement}
 use Rattle.closest.proofs.closest_slices.Tie as tie
 
@@ -21,8 +20,7 @@ passed : (c : tie.Else1) → let a = start-of c .args in Passed (inSlices (now (
 passed c = number-of (sym (c .before .before .check-handles .ensures)) ∙ c .if1 .left
 
 returns : tie.Need-returns
-unfolding closestAnswer
-returns c = tells (refused-told _ _ (c .before .before .check-handles .ensures) (c .if1 .taken))
+returns c = slices-refused _ _ _ (c .before .before .check-handles .ensures) (c .if1 .taken)
 
 search-requires : tie.Need-search-requires
 search-requires c κs =

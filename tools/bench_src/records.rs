@@ -19,6 +19,26 @@ struct Record {
     length: f64,
 }
 
+/// Calls a function that takes a record: the record first, then what else it takes.
+macro_rules! door {
+    ($record:expr, $name:ident, $($argument:expr),*) => {
+        unsafe {
+            $name(
+                $record.xs.len() as u64,
+                $record.knots.len() as u64,
+                $record.length,
+                $record.xs.as_ptr(),
+                $record.xs.len(),
+                $record.ys.as_ptr(),
+                $record.ys.len(),
+                $record.knots.as_ptr(),
+                $record.knots.len(),
+                $($argument),*
+            )
+        }
+    };
+}
+
 impl Record {
     fn of(wave: &Wave) -> Self {
         let every_other = |from: usize| wave.coords.iter().skip(from).step_by(2).copied().collect();
@@ -32,23 +52,7 @@ impl Record {
 
     fn point(&self, t: f64) -> [f64; 2] {
         let mut out = [0.0; 2];
-        let refusal = unsafe {
-            threshdune_record_evaluate(
-                self.xs.len() as u64,
-                self.knots.len() as u64,
-                self.length,
-                self.xs.as_ptr(),
-                self.xs.len(),
-                self.ys.as_ptr(),
-                self.ys.len(),
-                self.knots.as_ptr(),
-                self.knots.len(),
-                t,
-                0,
-                out.as_mut_ptr(),
-                2,
-            )
-        };
+        let refusal = door!(self, threshdune_record_evaluate, t, 0, out.as_mut_ptr(), 2);
         assert_eq!(refusal, 0);
         out
     }
@@ -57,27 +61,18 @@ impl Record {
         let mut answer = [0.0; 2 * POINTS + 1];
         let (xs, rest) = answer.split_at_mut(POINTS);
         let (ys, length) = rest.split_at_mut(POINTS);
-        let refusal = unsafe {
-            threshdune_record_move(
-                self.xs.len() as u64,
-                self.knots.len() as u64,
-                self.length,
-                self.xs.as_ptr(),
-                self.xs.len(),
-                self.ys.as_ptr(),
-                self.ys.len(),
-                self.knots.as_ptr(),
-                self.knots.len(),
-                index as u64,
-                x,
-                y,
-                xs.as_mut_ptr(),
-                xs.len(),
-                ys.as_mut_ptr(),
-                ys.len(),
-                length.as_mut_ptr(),
-            )
-        };
+        let refusal = door!(
+            self,
+            threshdune_record_move,
+            index as u64,
+            x,
+            y,
+            xs.as_mut_ptr(),
+            xs.len(),
+            ys.as_mut_ptr(),
+            ys.len(),
+            length.as_mut_ptr()
+        );
         assert_eq!(refusal, 0);
         answer
     }

@@ -1,5 +1,5 @@
 -- A build answered in slices: where a rule applies nothing is written, else all is. Assumes nothing.
-use mathlib.Core.Path.{_≡_, refl, sym, ap, _∙_}
+use mathlib.Core.Path.{_≡_, refl, ap, _∙_}
 use mathlib.Core.Bool.{Bool, true, false, _||_, cond}
 use mathlib.Core.List.{List}
 use Prim.Native.Nat.{ℕ, _+_, _*_, _≤_, zero-le}
@@ -7,7 +7,6 @@ use native.Mathlib.Omega.{arith}
 use borrow.Author.Tests.{ltb-false, eqb-true}
 use lib.Dec.{ltb}
 use lib.ListN.{length, take, length-take}
-use lib.Seq.{paste, paste-zero}
 use lib.Ieee.{Float}
 use Rattle.meaning.proofs.Filling.{length-listed}
 use Rattle.meaning.proofs.Tests.{or-left, or-right}
@@ -17,8 +16,6 @@ use Rattle.knots.specs.declared.Form.{Form}
 use Rattle.knots.specs.declared.Form.the-variants.{Control, Fit}
 use Rattle.knots.proofs.Accepted.{Accepted}
 use Rattle.buffer.specs.Pasted.{pasted}
-use Rattle.outcome.specs.Outcome.{answering}
-use Rattle.outcome.proofs.Doors.{put-all}
 use Rattle.curve.specs.declared.Curve.{Curve}
 use Rattle.curve.specs.declared.Built.{Built}
 use Rattle.curve.specs.Record.{emptyCurve}

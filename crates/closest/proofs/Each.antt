@@ -6,7 +6,7 @@ use Prim.Native.Nat.{ℕ, suc, _+_, _*_, _%_, _≤_, _<_}
 use native.Mathlib.Nat.{mul-one, suc-ne-zero}
 use native.Mathlib.Omega.{arith}
 use borrow.Author.Tests.{eq-eqb, ne-eqb}
-use lib.Dec.{T, eqb}
+use lib.Dec.{T}
 use lib.ListN.{length, getD, set, take, drop}
 use lib.Seq.{set-split, set-getD, drop-cons}
 use lib.Ieee.{Float, nan}
@@ -15,18 +15,17 @@ use Rattle.meaning.specs.Table.{at1}
 use Rattle.meaning.specs.Search.{listed}
 use Rattle.meaning.proofs.Filling.{length-listed}
 use Rattle.refusal.specs.declared.Refusal.{Refusal}
-use Rattle.refusal.specs.Refusals.{Row, row, refusal, firstOf}
+use Rattle.refusal.specs.Refusals.{Row, refusal, firstOf}
 use Rattle.refusal.proofs.Rows.{Passed, number-of, numbered, row-applies, row-passes, row-passed, first-decides, second-decides}
 use Rattle.outcome.specs.Outcome.{Outcome}
 use Rattle.outcome.specs.declared.Told.{Told}
 use Rattle.outcome.specs.declared.Told.the-variants.{Is, Refused}
 use Rattle.outcome.specs.Told.{Values, told}
-use Rattle.plane.specs.Vector.{Vector}
 use Rattle.shape.specs.Shape.{pointsIn}
 use Rattle.shape.specs.Offered.{Offered}
 use Rattle.shape.specs.Trusting.{trusting}
 use Rattle.rooms.specs.declared.Rooms.{Rooms}
-use Rattle.many.specs.Many.{placeOf, roomRow, many, answeringMany}
+use Rattle.many.specs.Many.{placeOf, roomRow, many}
 use Rattle.many.proofs.Rooms.{room-passed}
 use Rattle.many.proofs.Asked.{Keeps, Asked, asked-first, asked-long, asked-next, asked-all, many-refused, many-answered}
 use Rattle.closest.specs.Search.{closestAnswer}

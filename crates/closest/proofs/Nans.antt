@@ -6,7 +6,7 @@ use Prim.Native.Nat.{ℕ, zero, suc, _+_, _-_, _≤_}
 use native.Mathlib.Nat.{zero-add, suc-add}
 use native.Mathlib.Omega.{arith}
 use borrow.Author.Tests.{le-leb}
-use lib.Ieee.{Float, nan, inf, fin, add, sub, mul, lt, le, isNan}
+use lib.Ieee.{Float, nan, add, sub, mul, lt, le, isNan}
 use lib.Ieee.Scale.{finite}
 use Rattle.meaning.specs.Scalar.{plain, zero64}
 use Rattle.meaning.specs.Table.{at1, at2}

@@ -1,6 +1,6 @@
 -- A curve built from control points passes the rules of its own record: what the build lets through, every door that checks it again does, too.
 -- Assumes nothing.
-use mathlib.Core.Path.{_≡_, refl, sym, ap, _∙_}
+use mathlib.Core.Path.{_≡_, ap, _∙_}
 use mathlib.Core.Bool.{Bool, true, false}
 use mathlib.Core.List.{List}
 use Prim.Native.Nat.{ℕ, _+_, _≤_}
@@ -20,7 +20,7 @@ use Rattle.outcome.specs.Outcome.{someWild}
 use Rattle.outcome.proofs.Wild.{none-wild}
 use Rattle.shape.specs.Shape.{pointsIn, everyOther}
 use Rattle.shape.specs.Rules.{countedKnots, handleRules}
-use Rattle.shape.proofs.Trusted.{counted-all, all-tame}
+use Rattle.shape.proofs.Trusted.{counted-all, tame-passes}
 use Rattle.shape.proofs.Handles.{handles-passed-knots, handles-tame, given-front}
 use Rattle.shape.proofs.Sound.{others-finite}
 use Rattle.curve.specs.Record.{shapeIn, byRecord}
@@ -66,4 +66,4 @@ module _ (coords : List Float) (given : Bool) (ks : List Float) (short : Bool) (
   control-rechecked =
       let z = number-of (ap (λ (l : List Float). firstOf (knotRules Control n true l)) counted) ∙ knots-pass in
       let shape = shapeIn (controlCurve coords given ks) in
-      measured-passes (n + 4) shape (number-of (sym (all-tame (n + 4) shape refl z (coordinates 0 (omega arith)) (coordinates 1 (omega arith)))) ∙ z) measured
+      measured-passes (n + 4) shape (tame-passes (n + 4) shape z (coordinates 0 (omega arith)) (coordinates 1 (omega arith))) measured

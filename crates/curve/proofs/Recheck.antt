@@ -8,7 +8,6 @@ use lib.Dec.{T}
 use lib.Ieee.{Float, binary64, fits, ofBits}
 use lib.Ieee.Bits.{ofBits-toBits}
 use lib.Ieee.Scale.{finite}
-use Rattle.meaning.specs.Scalar.{plain}
 use Rattle.meaning.proofs.Tests.{and-left, and-right}
 use Rattle.refusal.specs.declared.Refusal.{Refusal}
 use Rattle.refusal.specs.Refusals.{row, firstOf, refusal}

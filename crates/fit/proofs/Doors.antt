@@ -1,6 +1,6 @@
 -- A curve through points passes the rules of its own record: what the build lets through, every door that checks it again does, too.
 -- Assumes nothing.
-use mathlib.Core.Path.{_≡_, refl, sym, ap, _∙_}
+use mathlib.Core.Path.{_≡_, sym, ap, _∙_}
 use mathlib.Core.Bool.{Bool, true, false}
 use mathlib.Core.List.{List}
 use mathlib.Core.Logic.{inl, inr}
@@ -23,7 +23,7 @@ use Rattle.solve_laws.proofs.Fine.{solved-fine}
 use Rattle.outcome.specs.Outcome.{someWild}
 use Rattle.outcome.proofs.Wild.{none-wild}
 use Rattle.shape.specs.Shape.{pointsIn}
-use Rattle.shape.proofs.Trusted.{counted-all, all-tame}
+use Rattle.shape.proofs.Trusted.{counted-all, tame-passes}
 use Rattle.curve.specs.Record.{shapeIn, byRecord}
 use Rattle.curve.proofs.Recheck.{measured-passes}
 use Rattle.curve.proofs.Builds.{build-parts}
@@ -72,9 +72,8 @@ module _ (q : List Float) (two : 2 ≤ pointsIn q) (room : pointsIn q ≤ 64) (f
       let z = number-of (ap (λ (l : List Float). firstOf (knotRules Control (n + 2) true l)) counted) ∙ fit-knots-pass q n two room tame rises in
       let shape = shapeIn (curveThrough q) in
       measured-passes (n + 2 + 4) shape
-      (number-of (sym (all-tame (n + 2 + 4) shape refl z
-      (none-wild (solutionThrough q .xs) (n + 2) (λ r l. answered r l .0)) (none-wild (solutionThrough q .ys) (n + 2) (λ r l. answered r l .1))))
-      ∙ z)
+      (tame-passes (n + 2 + 4) shape z
+      (none-wild (solutionThrough q .xs) (n + 2) (λ r l. answered r l .0)) (none-wild (solutionThrough q .ys) (n + 2) (λ r l. answered r l .1)))
       measured
 
 -- what the rules of the build let through

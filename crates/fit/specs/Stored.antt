@@ -8,7 +8,7 @@ use lib.ListN.{set}
 use lib.Ieee.{Float}
 use Rattle.meaning.specs.Scalar.{plain}
 use Rattle.meaning.specs.Table.{at1}
-use Rattle.meaning.specs.Loops.{turns, run}
+use Rattle.meaning.specs.Loops.{run}
 use Rattle.span.specs.Counting.{countedOf}
 use Rattle.plane.specs.Vector.{Vector}
 use Rattle.solve.specs.declared.Solved.{Solved}

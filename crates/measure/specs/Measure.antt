@@ -6,7 +6,6 @@ use lib.Ieee.{Float}
 use lib.Ieee.Scale.{finite}
 use Rattle.meaning.specs.Scalar.{plain}
 use Rattle.meaning.specs.Table.{at1}
-use Rattle.refusal.specs.declared.Refusal.{Refusal}
 use Rattle.refusal.specs.Refusals.{row, none}
 use Rattle.outcome.specs.Told.{Values, telling}
 use Rattle.shape.specs.Shape.{Shape}

@@ -1,6 +1,6 @@
 -- The length of the control polygon, over any scalar. The original's `polygon_length` decides.
 use mathlib.Core.List.{List}
-use Prim.Native.Nat.{ℕ, _+_, _-_, _*_}
+use Prim.Native.Nat.{ℕ, _-_}
 use Rattle.meaning.specs.Scalar.{Ops, zero64}
 use Rattle.meaning.specs.Table.{at1}
 use Rattle.meaning.specs.Loops.{run}

@@ -1,5 +1,5 @@
 -- What its rules tell of a curve that they let through, in rooms or in slices: its knots are accepted, and its coordinates are finite. Assumes nothing.
-use mathlib.Core.Path.{_≡_, refl, sym, ap, _∙_}
+use mathlib.Core.Path.{_≡_, ap, _∙_}
 use mathlib.Core.Bool.{true, false, _||_}
 use mathlib.Core.List.{List, []}
 use Prim.Native.Nat.{ℕ, _+_, _*_, _≤_, _<_}
@@ -13,7 +13,7 @@ use Rattle.meaning.specs.Scalar.{plain}
 use Rattle.meaning.specs.Table.{at1}
 use Rattle.meaning.proofs.Filling.{nth-listed}
 use Rattle.meaning.proofs.Tests.{or-left, or-right}
-use Rattle.refusal.proofs.Rows.{Passed, number-of, numbered, row-passed, both-pass}
+use Rattle.refusal.proofs.Rows.{Passed, numbered, row-passed, both-pass}
 use Rattle.knots.specs.declared.Form.the-variants.{Control}
 use Rattle.knots.specs.Rules.{knotRules}
 use Rattle.knots.proofs.Accepted.{Accepted, accepted}
@@ -23,7 +23,7 @@ use Rattle.outcome.proofs.Wild.{each-finite, none-wild}
 use Rattle.shape.specs.Shape.{Shape, pointsIn, everyOther}
 use Rattle.shape.specs.Rules.{countedKnots, shapeRules, handleRules}
 use Rattle.shape.specs.Offered.{Offered, inRooms, inSlices}
-use Rattle.shape.proofs.Trusted.{numbered-shape, all-tame, trusted}
+use Rattle.shape.proofs.Trusted.{numbered-shape, tame-passes, trusted}
 use Rattle.shape.proofs.Handles.{numbered-handles, handles-passed-knots, handles-tame, slices-trusted}
 
 abbrev pub AllFinite : ℕ → List Float → Type 0
@@ -57,7 +57,7 @@ pub other-points : (n k : ℕ) (xs ys xs′ ys′ us : List Float) → Passed (i
 unfolding shapeRules
 other-points n k xs ys xs′ ys′ us h f g =
     let z = both-pass (knotRules Control n true (countedKnots k us)) _ (numbered-knots Control n true _) h .0 in
-    number-of (sym (all-tame k (inRooms n k xs′ ys′ us .shape) refl z (none-wild xs′ n f) (none-wild ys′ n g))) ∙ z
+    tame-passes k (inRooms n k xs′ ys′ us .shape) z (none-wild xs′ n f) (none-wild ys′ n g)
 
 -- ---- in slices
 

@@ -1,5 +1,5 @@
 -- The rules of a shape, from its parts, and what they tell of its knots. Assumes nothing.
-use mathlib.Core.Path.{_≡_, sym, ap, _∙_}
+use mathlib.Core.Path.{_≡_, refl, sym, ap, _∙_}
 use mathlib.Core.Bool.{true, false, _||_}
 use mathlib.Core.List.{List, [], _∷_}
 use Prim.Native.Nat.{ℕ, _+_, _≤_, _<_}
@@ -70,6 +70,11 @@ module _ (k : ℕ) (s : Shape Float) {r : Refusal} (known : r ≡ firstOf (knotR
     pub all-tame : someWild (s .xs) (s .n) ≡ false → someWild (s .ys) (s .n) ≡ false → r ≡ firstOf (shapeRules k s)
     all-tame g h =
         known ∙ passed-none _ (numbered-knots Control _ true _) (number-of (sym known) ∙ passed) ∙ sym (left ∙ row-passes _ [] (rw (g, h)) ∙ no-rows)
+
+-- finite control points over knots that pass
+pub tame-passes : (k : ℕ) (s : Shape Float) → Passed (knotRules Control (s .n) true (countedKnots k (s .knots))) → someWild (s .xs) (s .n) ≡ false
+    → someWild (s .ys) (s .n) ≡ false → Passed (shapeRules k s)
+tame-passes k s z g h = number-of (sym (all-tame k s refl z g h)) ∙ z
 
 -- an accepted shape's knots are accepted
 pub trusted : (k : ℕ) (s : Shape Float) → Passed (shapeRules k s) → Accepted (take (s .n + 4) (s .knots)) (s .n)

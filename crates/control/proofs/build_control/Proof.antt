@@ -1,10 +1,9 @@
 -- `control::build_control` meets its contract: the rules of the handles, that no slice is short, then what is stored.
-use mathlib.Core.Path.{_≡_, ap, _∙_}
+use mathlib.Core.Path.{ap, _∙_}
 use mathlib.Core.Bool.{not}
 use native.Mathlib.Nat.{suc-ne-zero}
 use native.Mathlib.Omega.{arith}
 use borrow.Author.Needs.{needs}
-use denote.Ref.{now}
 use lib.Dec.{ltb}
 use Rattle.knots.specs.declared.Form.the-variants.{Control}
 use Rattle.outcome.specs.Outcome.{someWild}

@@ -9,7 +9,6 @@ use lib.Ieee.Scale.{finite}
 use Rattle.refusal.specs.Refusals.{none}
 use Rattle.refusal.proofs.Rows.{Passed, number-of}
 use Rattle.knots.specs.declared.Form.the-variants.{Control}
-use Rattle.outcome.specs.Told.{telling}
 use Rattle.outcome.proofs.Doors.{tells, refused-told, after-told, stop-told, pass-told, done-told, not-told}
 use Rattle.shape.specs.Shape.{sliceShape}
 use Rattle.shape.specs.Rules.{handleRules}

@@ -1,6 +1,7 @@
-// The rules' numbers to check by that are not starred, run: the closest parameters of A and B, the orders that are accepted, and curves that are
-// accepted and refused. Each line has what is asked and the answer; `stdout` has the rules' answers.
+// The rules' numbers to check by that are not starred, run: the closest parameters of A and B, the orders that are accepted, curves that are
+// accepted and refused, and lengths that are stored. Each line has what is asked and the answer; `stdout` has the rules' answers.
 use curve::Built;
+use curve::Curve;
 use knots::Form;
 use libc::STDOUT_FILENO;
 use outcome::Told;
@@ -32,20 +33,20 @@ fn print_refusal(r: Refusal) {
     }
 }
 
-// Writes the bits of a parameter, or a word for a NaN, which has no bits of its own.
-fn print_parameter(t: f64) {
-    if t == t {
-        io::print_hex(STDOUT_FILENO, f64::to_bits(t), 16);
+// Writes the bits of a number, or a word for a NaN, which has no bits of its own.
+fn print_number(x: f64) {
+    if x == x {
+        io::print_hex(STDOUT_FILENO, f64::to_bits(x), 16);
     } else {
         io::write_all(STDOUT_FILENO, b"nan");
     }
     io::write_all(STDOUT_FILENO, b"\n");
 }
 
-// Writes the parameter, or the refusal.
+// Writes the number, or the refusal.
 fn print_told(f: Told) {
     match f {
-        Told::Is(t) => print_parameter(t),
+        Told::Is(x) => print_number(x),
         Told::Refused(r) => print_refusal(r),
     }
 }
@@ -89,7 +90,25 @@ fn print_control(points: &[f64; 8]) {
     print_refusal(uniform(points).refusal);
 }
 
-fn main() {
+// Writes the length of A with a control point moved to (0, 4), or the refusal.
+fn print_moved(index: usize) {
+    let moved = moving::move_point(uniform(&a()).curve, index, 0.0, 4.0);
+    if moved.refusal.number == 0 {
+        print_told(measure::length(moved.curve));
+    } else {
+        print_refusal(moved.refusal);
+    }
+}
+
+// Writes what is answered for the length of this curve, where it stores another.
+fn print_stored(c: Curve, length: f64) {
+    let mut other = c;
+    other.length = length;
+    print_told(measure::length(other));
+}
+
+// The closest parameters, and the orders.
+fn print_questions() {
     io::write_all(STDOUT_FILENO, b"B closest to (-6,0): ");
     print_told(closest::closest(uniform(&b()).curve, -6.0, 0.0));
     io::write_all(STDOUT_FILENO, b"B closest to (1.5,3): ");
@@ -100,6 +119,10 @@ fn main() {
     print_order(4);
     io::write_all(STDOUT_FILENO, b"order 5: ");
     print_order(5);
+}
+
+// Curves that are accepted, and refused.
+fn print_builds() {
     io::write_all(STDOUT_FILENO, b"fit (0,0),(1e200,0),(0,0): ");
     print_fit(&[0.0, 0.0, 1e200, 0.0, 0.0, 0.0]);
     io::write_all(STDOUT_FILENO, b"fit (0,0),(1e200,0): ");
@@ -110,4 +133,24 @@ fn main() {
     print_control(&[0.0, 0.0, 1.35e154, 0.0, 0.0, 0.0, 0.0, 0.0]);
     io::write_all(STDOUT_FILENO, b"a control edge of 1.34e154: ");
     print_control(&[0.0, 0.0, 1.34e154, 0.0, 0.0, 0.0, 0.0, 0.0]);
+}
+
+// Lengths that are stored.
+fn print_lengths() {
+    io::write_all(STDOUT_FILENO, b"A's length: ");
+    print_told(measure::length(uniform(&a()).curve));
+    io::write_all(STDOUT_FILENO, b"A's length, point 0 moved to (0,4): ");
+    print_moved(0);
+    io::write_all(STDOUT_FILENO, b"A's length, point 4 moved to (0,4): ");
+    print_moved(4);
+    io::write_all(STDOUT_FILENO, b"A's length, stored with another last bit: ");
+    print_stored(uniform(&a()).curve, 24.000000000000004);
+    io::write_all(STDOUT_FILENO, b"four points at (0,0), -0.0 stored: ");
+    print_stored(uniform(&[0.0; 8]).curve, -0.0);
+}
+
+fn main() {
+    print_questions();
+    print_builds();
+    print_lengths();
 }

@@ -1,11 +1,11 @@
--- `run_numbers::print_parameter` is safe: what equals itself is no NaN. Assumes nothing.
+-- `run_numbers::print_number` is safe: what equals itself is no NaN. Assumes nothing.
 use mathlib.Core.Path.{sym, subst}
 use mathlib.Core.Bool.{not}
 use lib.Dec.{T}
 use lib.Ieee.{Float, nan, inf, fin, eq, isNan}
 use borrow.Author.Needs.{needs}
-use Rattle.run_numbers.proofs.print_parameter.Statement.{statement}
-use Rattle.run_numbers.proofs.print_parameter.Tie as tie
+use Rattle.run_numbers.proofs.print_number.Statement.{statement}
+use Rattle.run_numbers.proofs.print_number.Tie as tie
 
 number : (x : Float) → T (eq x x) → T (not (isNan x))
 unfolding eq isNan
@@ -14,10 +14,10 @@ number (inf s) t = tt
 number (fin s m e) t = tt
 
 float-to-bits-print-hex : tie.Need-float-to-bits-print-hex
-float-to-bits-print-hex c = number (c .before .args .t) (subst T (sym (c .if1 .taken)) tt)
+float-to-bits-print-hex c = number (c .before .args .x) (subst T (sym (c .if1 .taken)) tt)
 
-pub print-parameter-spec : {M : Type 1} → statement M
-print-parameter-spec =
+pub print-number-spec : {M : Type 1} → statement M
+print-number-spec =
     tie.close
     (tie.spec float-to-bits-print-hex (search needs) (search needs) (search needs) (search needs) (search needs)
     (search needs))

@@ -1,10 +1,14 @@
 -- How curves and numbers cross between C and the library. include/threshdune_parts.h says the same in words.
 use Prim.Native.Nat.{ℕ, min}
+use mathlib.Core.Bool.{Bool, not, cond}
 use mathlib.Core.List.{List}
+use lib.Dec.{eqb}
 use lib.ListN.{length, getD, replicate}
 use lib.Ieee.{Float}
 use Rattle.meaning.specs.Scalar.{zero64}
 use Rattle.refusal.specs.declared.Refusal.{Refusal}
+use Rattle.knots.specs.declared.Form.{Form}
+use Rattle.knots.specs.declared.Form.the-variants.{Control, Fit}
 use Rattle.buffer.specs.Pasted.{pasted}
 use Rattle.outcome.specs.Told.{Values}
 use Rattle.shape.specs.Offered.{Offered}
@@ -12,6 +16,13 @@ use Rattle.curve.specs.declared.Curve.{Curve}
 use Rattle.curve.specs.Record.{byRecord}
 
 -- ---- in
+
+-- a flag crosses as a number: knots are given where it is not 0, and handles are fit points
+abbrev pub isGiven : ℕ → Bool
+isGiven k = not (eqb k 0)
+
+abbrev pub formOf : ℕ → Form
+formOf k = cond (isGiven k) Fit Control
 
 -- a room of k numbers: the first of s, as many as it takes, and +0.0
 unfoldable pub roomOf : ℕ → List Float → List Float

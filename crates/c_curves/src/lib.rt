@@ -5,11 +5,22 @@ ghost use lib.ListN.{length};
 ghost use Rattle.buffer.specs.Pasted.{pasted};
 ghost use Rattle.outcome.specs.Told.{told};
 ghost use Rattle.measure.specs.Measure.{interval};
-ghost use Rattle.c_curves.specs.Curves.{readCurve, behind, handed};
+ghost use Rattle.c_curves.specs.Curves.{formOf, readCurve, behind, handed};
 use curve::Curve;
+use knots::Form;
 use measure::Interval;
 use outcome::Told;
 use refusal::Refusal;
+
+// What the handles are: fit points where the flag is not 0.
+pub fn form_of(fit: u64) -> Form
+    ensures { λ r. ⌜ r ≡ formOf fit ⌝ }
+{
+    if fit != 0 {
+        return Form::Fit;
+    }
+    Form::Control
+}
 
 // Puts the numbers of s into room, as many as it takes.
 fn fill(s: &[f64], room: &mut [f64])

@@ -1,10 +1,10 @@
 -- How values cross between C and the library: as slices and counts. include/threshdune_parts.h says the same in words.
 use mathlib.Core.Path.{_≡_}
 use Prim.Native.Nat.{ℕ, _+_, _*_, _/_, _%_}
-use mathlib.Core.Bool.{Bool, not, _||_, cond}
+use mathlib.Core.Bool.{Bool, _||_, cond}
 use mathlib.Core.List.{List, [], _∷_, _++_, map}
 use lib.ListN.{length, getD}
-use lib.Dec.{ltb, eqb}
+use lib.Dec.{ltb}
 use lib.Seq.{paste}
 use lib.Ieee.{Float}
 use Rattle.meaning.specs.Scalar.{zero64}
@@ -13,10 +13,6 @@ use Rattle.meaning.specs.Search.{listed}
 use Rattle.partials.specs.declared.Dv.{Dv}
 use Rattle.partials.specs.Dual.{partials, dual}
 use Rattle.plane.specs.Vector.{Vector}
-
--- a flag crosses as a number: knots are given where it is not 0
-abbrev pub isGiven : ℕ → Bool
-isGiven k = not (eqb k 0)
 
 -- ---- in: what lies past a slice's end reads as +0.0, a missing count as 0
 

@@ -1,7 +1,7 @@
 // The library for C and Rust to link: the same proved functions, over numbers and slices. include/threshdune.h declares the curves,
 // include/threshdune_parts.h the rest. What C is told of a refusal is its number.
 ghost use mathlib.Core.Path.{_≡_};
-ghost use mathlib.Core.Bool.{false, cond};
+ghost use mathlib.Core.Bool.{false};
 ghost use mathlib.Core.List.{[]};
 ghost use lib.Ieee.Scale.{finite};
 ghost use Rattle.meaning.specs.Root.{rootOf};
@@ -24,8 +24,8 @@ ghost use Rattle.samples.specs.Samples.{counted, samplesAnswer};
 ghost use Rattle.closest.specs.Search.{closestAnswer};
 ghost use Rattle.closest.specs.Many.{closestMany};
 ghost use Rattle.residual.specs.Residual as held;
-ghost use Rattle.c_values.specs.Crossing.{isGiven, readDv, readV, readSix, AnsweredD, AnsweredV, AnsweredP, AnsweredB};
-ghost use Rattle.c_curves.specs.Curves.{readCurve, asRecord, behind, handed};
+ghost use Rattle.c_values.specs.Crossing.{readDv, readV, readSix, AnsweredD, AnsweredV, AnsweredP, AnsweredB};
+ghost use Rattle.c_curves.specs.Curves.{isGiven, formOf, readCurve, asRecord, behind, handed};
 ghost use Rattle.moving.specs.Moving.{movedOut, movedInto};
 use knots::Form;
 use partials::Dv;
@@ -230,27 +230,12 @@ pub extern "C" fn threshdune_residual(
 ) -> u64
     ensures { λ r. ⌜ held.outcome (refusal r) (now (work .exit)) (now (counts .exit)) (now (residuals .exit)) (now (rows .exit))
         ≡ held.residualAnswer
-        (held.asked (cond (isGiven fit) Fit Control) (now (handles .entry)) (isGiven given) (now (knots .entry)) px py t)
+        (held.asked (formOf fit) (now (handles .entry)) (isGiven given) (now (knots .entry)) px py t)
         (held.lent (now (work .entry)) (now (counts .entry)) (now (residuals .entry)) (now (rows .entry))) ⌝ }
 {
-    if fit != 0 {
-        let r = residual::residual(
-            Form::Fit,
-            handles,
-            given != 0,
-            knots,
-            px,
-            py,
-            t,
-            work,
-            counts,
-            residuals,
-            rows,
-        );
-        return r.number;
-    }
+    let form = c_curves::form_of(fit);
     let r = residual::residual(
-        Form::Control,
+        form,
         handles,
         given != 0,
         knots,

@@ -9,7 +9,7 @@ use lib.Ieee.{Float, add, sub, mul}
 use lib.Ieee.Scale.{finite}
 use Rattle.meaning.specs.Root.{inUnits}
 use Rattle.hull.specs.Units.{U, plus, minus}
-use Rattle.hull.proofs.Values.{B, add-finite, mul-finite}
+use Rattle.meaning.proofs.Values.{B, add-finite, mul-finite}
 use Rattle.hull.proofs.Operations.{Whole, parts}
 use Rattle.hull.proofs.Numbers.{twice}
 use Rattle.hull.proofs.NotBelow.{Total, sub-pos}

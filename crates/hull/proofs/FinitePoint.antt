@@ -8,7 +8,7 @@ use lib.Ieee.{Float, add, sub, mul}
 use lib.Ieee.Scale.{finite}
 use Rattle.meaning.specs.Root.{inUnits}
 use Rattle.hull.specs.Units.{U, plus, minus}
-use Rattle.hull.proofs.Values.{B, U-pos}
+use Rattle.meaning.proofs.Values.{B, U-pos}
 use Rattle.hull.proofs.Operations.{Whole, parts, one-part}
 use Rattle.hull.proofs.Numbers.{strict, first-of, second-of, reach}
 use Rattle.hull.proofs.NotBelow.{Pos, mul-scaled, mag-of}

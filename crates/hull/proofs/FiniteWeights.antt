@@ -9,7 +9,7 @@ use lib.Ieee.Scale.{finite}
 use Rattle.meaning.specs.Root.{inUnits}
 use Rattle.hull.specs.Units.{U, plus}
 use Rattle.hull.proofs.Rounding.{P, Within}
-use Rattle.hull.proofs.Values.{B}
+use Rattle.meaning.proofs.Values.{B}
 use Rattle.hull.proofs.Numbers.{first-of, second-of, twice, near-five, near-all}
 use Rattle.hull.proofs.NotBelow.{Pos, div-pos, mag-of}
 use Rattle.hull.proofs.NoOverflow.{K, rest, add-fine, mul-fine, div-fine}

@@ -1,7 +1,6 @@
 -- One rounding and the operations in units; the weights of A2.3 and the sum of products, in whole numbers; where nothing overflows; the knots
 -- around a span; the definition's row 0; and the two theorems of demand 3 (docs/RULES.md), which are in Theorems.
 pub mod Rounding
-pub mod Values
 pub mod Operations
 pub mod NotBelow
 pub mod NoOverflow

@@ -10,7 +10,7 @@ use lib.Ieee.Scale.{grid, finite}
 use Rattle.meaning.specs.Root.{inUnits}
 use Rattle.hull.specs.Units.{U, negative}
 use Rattle.hull.proofs.Rounding.{P, H, Within, units-off, whole-off}
-use Rattle.hull.proofs.Values.{B, U-pos, round-val, value-finite, mul-is, div-is, add-is}
+use Rattle.meaning.proofs.Values.{B, U-pos, round-val, value-finite, mul-is, div-is, add-is}
 use Rattle.hull.proofs.Operations.{Whole, neg-has, sub-opened}
 
 abbrev pub K : ℕ

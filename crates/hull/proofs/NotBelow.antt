@@ -12,7 +12,7 @@ use lib.Ieee.Scale.{finite}
 use Rattle.meaning.specs.Root.{inUnits}
 use Rattle.hull.specs.Units.{U, negative, plus, minus}
 use Rattle.hull.proofs.Rounding.{P, H, Within}
-use Rattle.hull.proofs.Values.{B, U-pos}
+use Rattle.meaning.proofs.Values.{B, U-pos}
 use Rattle.hull.proofs.Operations.{Whole, Sum, gap, mul-model, div-model, add-model, sub-model, one-part, parts}
 
 -- finite, and not below zero

@@ -13,7 +13,7 @@ use lib.Ieee.Scale.{grid, finite}
 use Rattle.meaning.specs.Root.{inUnits}
 use Rattle.hull.specs.Units.{U, negative, plus, minus}
 use Rattle.hull.proofs.Rounding.{P, H, Within, units-off, whole-off}
-use Rattle.hull.proofs.Values.{B, U-pos, round-under, round-val, mag-is, mul-is, div-is, add-is}
+use Rattle.meaning.proofs.Values.{B, U-pos, round-under, round-val, mag-is, mul-is, div-is, add-is}
 
 -- finite, and a whole number of units
 abbrev pub Whole : Float → Type 0

@@ -17,7 +17,7 @@ use Rattle.meaning.specs.Root.{inUnits}
 use Rattle.meaning.proofs.Order.{below-is, below-ratio, le-not-lt}
 use Rattle.meaning.proofs.Whole.{exponent}
 use Rattle.hull.specs.Units.{U, negative, plus, minus}
-use Rattle.hull.proofs.Values.{U-pos, left-part, right-part}
+use Rattle.meaning.proofs.Values.{U-pos, left-part, right-part}
 use Rattle.hull.proofs.Operations.{Whole}
 
 -- ---- a double that is finite is a whole number of units: its power of two is 2 ^ -1074 or above

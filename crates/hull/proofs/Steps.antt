@@ -12,7 +12,7 @@ use lib.Ieee.Scale.{finite}
 use Rattle.meaning.specs.Root.{inUnits}
 use Rattle.hull.specs.Units.{U, plus}
 use Rattle.hull.proofs.Rounding.{P, Within}
-use Rattle.hull.proofs.Values.{B, U-pos, mag-is, mul-finite, add-finite, div-finite}
+use Rattle.meaning.proofs.Values.{B, U-pos, mag-is, mul-finite, add-finite, div-finite}
 use Rattle.hull.proofs.Numbers.{twice, step-off, fold1, fold2, fold3, join, level-off}
 use Rattle.hull.proofs.NotBelow.{Pos, Total, add-pos, mul-scaled, mul-pos, div-pos, mag-of}
 use Rattle.hull.proofs.NoOverflow.{K, add-fine}

@@ -8,7 +8,7 @@ use lib.Ieee.{Float, add, mul}
 use lib.Ieee.Scale.{finite}
 use Rattle.hull.specs.Units.{U, plus, minus}
 use Rattle.hull.proofs.Rounding.{P, H, Within}
-use Rattle.hull.proofs.Values.{B, U-pos, add-finite}
+use Rattle.meaning.proofs.Values.{B, U-pos, add-finite}
 use Rattle.hull.proofs.Operations.{Whole, gap, add-model, one-part}
 use Rattle.hull.proofs.Numbers.{widen, reach, run, products, hull-number}
 use Rattle.hull.proofs.NotBelow.{mul-scaled}

@@ -6,7 +6,7 @@ use lib.Ieee.{Float, add}
 use lib.Ieee.Scale.{finite}
 use Rattle.hull.specs.Units.{U, plus}
 use Rattle.hull.proofs.Rounding.{P, Within}
-use Rattle.hull.proofs.Values.{B, add-finite}
+use Rattle.meaning.proofs.Values.{B, add-finite}
 use Rattle.hull.proofs.Numbers.{three}
 use Rattle.hull.proofs.NotBelow.{Pos}
 use Rattle.hull.proofs.Steps.{nought, one, to-right, to-left, Ends, Level1, Level2, Level3, level1, level2, level3, right-finite, left-finite, plus-one, one-pos}

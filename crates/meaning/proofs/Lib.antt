@@ -11,3 +11,4 @@ pub mod Nans
 pub mod Sizes
 pub mod Whole
 pub mod Zeros
+pub mod Values

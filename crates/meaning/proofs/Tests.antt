@@ -40,6 +40,10 @@ pub or-right : (a b : Bool) → a || b ≡ false → b ≡ false
 or-right true b h = no (sym h)
 or-right false b h = h
 
+pub and-true : (b : Bool) → b && true ≡ b
+and-true true = refl
+and-true false = refl
+
 pub or-false : (b : Bool) → b || false ≡ b
 or-false true = refl
 or-false false = refl

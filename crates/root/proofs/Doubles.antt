@@ -70,10 +70,17 @@ finite-below (fin false m e) f c =
     written-below (size v) (v / 2 ^ (size v - 53))
     (size-le v 2098 (in-units (m * up e) (down e) (2 ^ 1074) (2 ^ 1024) (pow-pos 1074) (down-pos e) (bounded m e f))) (kept-lt 53 v)
 
+pub units-below : (y : Float) → T (fits binary64 y) → T (unsigned y) → inUnits y < 2 ^ 1024 * 2 ^ 1074
+unfolding inUnits
+units-below nan f c = absurd c
+units-below (inf s) f c = absurd c
+units-below (fin true m e) f c = absurd c
+units-below (fin false m e) f c = in-units (m * up e) (down e) (2 ^ 1074) (2 ^ 1024) (pow-pos 1074) (down-pos e) (bounded m e f)
+
 -- ---- so what is known of a pattern is known of the double
 
 module _ (y : Float) (f : T (fits binary64 y)) (c : T (unsigned y)) where
-  of-pattern : HasValue y false (patternUnits (toBits binary64 y)) (2 ^ 1074)
+  pub of-pattern : HasValue y false (patternUnits (toBits binary64 y)) (2 ^ 1074)
   of-pattern =
       subst (λ (z : Float). HasValue z false (patternUnits (toBits binary64 y)) (2 ^ 1074)) (ofBits-toBits binary64 y f)
       (pattern-value (toBits binary64 y) (finite-below y f c))

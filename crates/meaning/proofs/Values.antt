@@ -13,14 +13,13 @@ use lib.Ieee.Exact.{HasValue, units-val}
 use lib.Ieee.Order.{drop, kept}
 use lib.Ieee.Scale.{round-same, grid, overflow, finite}
 use lib.Ieee.Positive.{first-pos}
 use Rattle.meaning.specs.Root.{inUnits}
 use Rattle.meaning.proofs.Order.{ratio-lt}
-use Rattle.hull.specs.Units.{U}
 
 abbrev pub B : Format
 B = binary64
 
-pub U-pos : 0 < U
+pub U-pos : 0 < 2 ^ 1074
 U-pos = pow-pos 1074
 
 -- ---- `round` with either sign
@@ -46,7 +45,7 @@ value-finite (inf t) s a c h = absurd h
 value-finite (fin t m e) s a c h = tt
 
 -- ---- the size of a value
-pub mag-is : (x : Float) (s : Bool) (a : ℕ) → HasValue x s a U → inUnits x ≡ a
+pub mag-is : (x : Float) (s : Bool) (a : ℕ) → HasValue x s a (2 ^ 1074) → inUnits x ≡ a
 unfolding inUnits
 mag-is nan s a h = absurd h
 mag-is (inf t) s a h = absurd h

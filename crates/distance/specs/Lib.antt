@@ -1,2 +1,0 @@
--- The distance of two points.
-pub mod Distance

@@ -1,7 +1,7 @@
 -- Where every distance is finite, the loop over the samples finds the first of the nearest: the first of the least distances, though it compares squares
 -- before. Assumes nothing.
 use mathlib.Core.Path.{_≡_, refl, sym, ap, _∙_, subst}
-use mathlib.Core.Bool.{true, false, not, _&&_, true≢false}
+use mathlib.Core.Bool.{true, false, _&&_, cond, true≢false}
 use mathlib.Core.List.{List, [], _∷_, _++_}
 use mathlib.Core.Logic.{_⊎_, inl, inr}
 use Prim.Native.Nat.{ℕ, zero, suc, _+_, _<_, zero-le}
@@ -15,17 +15,18 @@ use Rattle.meaning.specs.Scalar.{plain}
 use Rattle.meaning.specs.Table.{at1}
 use Rattle.meaning.specs.Loops.{run}
 use Rattle.meaning.proofs.Order.{finite-no-nan, le-refl, lt-le, lt-trans, lt-le-trans, lt-not-le, not-lt-le}
-use Rattle.meaning.proofs.Tests.{by-two, refuted, and-left, and-right, no}
+use Rattle.meaning.proofs.Tests.{by-two, refuted, and-both, and-left, and-right, and-true, no}
 use Rattle.meaning.proofs.Every.{all, each}
 use Rattle.meaning.proofs.Searching.{seek-is}
 use Rattle.plane.specs.Vector.{Vector}
 use Rattle.shape.specs.Shape.{Shape}
 use Rattle.point.specs.Point.{pointOrders}
 use Rattle.samples.specs.Samples.{pairSamples, samplesOf}
-use Rattle.distance.proofs.Squares.{Squared, of-points, of-infinity, not-nearer, finite-square}
+use Rattle.distance_rule.specs.Distance.{limitOf}
+use Rattle.distance_rule.proofs.Limits.{Limited, of-points, of-infinity, not-nearer, finite-distance-beyond}
 use Rattle.closest.specs.Nearest.{away, isNearest, firstNearest}
 use Rattle.closest.specs.Search.{orderIn, to, samplesIn, distanceAt, samplesFine, nearestSample}
-use Rattle.closest.specs.Sampling.{through, squareAt, sampled, unsampled, bestSample}
+use Rattle.closest.specs.Sampling.{through, squareAt, beyondLimit, nextBest, sampled, unsampled, bestSample}
 use Rattle.closest.specs.declared.Best.{Best}
 
 -- a finite number is below infinity
@@ -82,43 +83,79 @@ module _ (c : Shape Float) (p : Vector Float) where
   abbrev all-of : List Float → Best → Best
   all-of l b = through (sampled c p) l b
 
-  -- ---- a sample's square
+  -- ---- one sample
 
-  squared : (t : Float) → Squared (distanceAt c p t) (squareAt c p t)
+  limited : (t : Float) → Limited (distanceAt c p t) (limitOf (squareAt c p t))
   unfolding distanceAt squareAt
-  squared t = of-points (orderIn (pointOrders c t 0) 0) p
+  limited t = of-points (orderIn (pointOrders c t 0) 0) p
 
-  finite-is : (t : Float) → finite (distanceAt c p t) ≡ lt (squareAt c p t) (inf false)
-  unfolding distanceAt squareAt
-  finite-is t = finite-square (orderIn (pointOrders c t 0) 0) p
+  -- one past the limit
+  module _ (b : Best) (t : Float) (k : Limited (b .d) (b .limit)) (h : beyondLimit c p b t ≡ true) where
+    from-limit : le (b .limit) (squareAt c p t) ≡ true
+    from-limit = and-left (le (b .limit) (squareAt c p t)) (lt (squareAt c p t) (inf false)) h
 
-  -- it is compared first, which leaves the choice to the distances
-  nearer-is : (b : Best) (t : Float) → Squared (b .d) (b .square)
-      → (not (le (b .square) (squareAt c p t)) && lt (distanceAt c p t) (b .d)) ≡ lt (distanceAt c p t) (b .d)
-  nearer-is b t k = by-two (le (b .square) (squareAt c p t)) (λ h. rw h (sym (not-nearer (squared t) k h))) (λ h. rw h)
+    under-infinity : lt (squareAt c p t) (inf false) ≡ true
+    under-infinity = and-right (le (b .limit) (squareAt c p t)) (lt (squareAt c p t) (inf false)) h
+
+    not-less : lt (distanceAt c p t) (b .d) ≡ false
+    unfolding distanceAt squareAt
+    not-less = not-nearer (orderIn (pointOrders c t 0) 0) p k from-limit under-infinity
+
+    past-finite : finite (distanceAt c p t) ≡ true
+    unfolding distanceAt squareAt
+    past-finite = finite-distance-beyond (orderIn (pointOrders c t 0) 0) p k from-limit under-infinity
+
+  -- What a sample makes of the nearest so far, as far as t, the distance and the flag go: as if every distance were asked.
+  record Step (b : Best) (t : Float) (r : Best) : Type 0 where
+    at-t : r .t ≡ cond (lt (distanceAt c p t) (b .d)) t (b .t)
+    at-d : r .d ≡ cond (lt (distanceAt c p t) (b .d)) (distanceAt c p t) (b .d)
+    at-fine : r .fine ≡ (b .fine && finite (distanceAt c p t))
+    limit : Limited (r .d) (r .limit)
+
+  step : (b : Best) (t : Float) → Limited (b .d) (b .limit) → Step b t (sampled c p b t)
+  unfolding sampled nextBest
+  step b t k = by-two (beyondLimit c p b t)
+      (λ h. rw h (record {
+        at-t = rw (not-less b t k h);
+        at-d = rw (not-less b t k h);
+        at-fine = rw (past-finite b t k h) (sym (and-true (b .fine)));
+        limit = k;
+      }))
+      (λ h. rw h (record {
+        at-t = refl;
+        at-d = refl;
+        at-fine = refl;
+        limit = by-two (lt (distanceAt c p t) (b .d)) (λ g. rw g (limited t)) (λ g. rw g k);
+      }))
 
   -- ---- finite distances
 
-  fine-before : (l : List Float) (b : Best) → all-of l b .fine ≡ true → b .fine ≡ true
-  unfolding through sampled
-  fine-before [] b h = h
-  fine-before (t ∷ ts) b h = and-left (b .fine) (lt (squareAt c p t) (inf false)) (fine-before ts (sampled c p b t) h)
+  fine-before : (l : List Float) (b : Best) → Limited (b .d) (b .limit) → all-of l b .fine ≡ true → b .fine ≡ true
+  unfolding through
+  fine-before [] b k h = h
+  fine-before (t ∷ ts) b k h =
+      let s = step b t k in
+      and-left (b .fine) (finite (distanceAt c p t)) (sym (s .at-fine) ∙ fine-before ts (sampled c p b t) (s .limit) h)
 
-  finite-first : (t : Float) (ts : List Float) (b : Best) → all-of (t ∷ ts) b .fine ≡ true → finite (distanceAt c p t) ≡ true
-  unfolding through sampled
-  finite-first t ts b h = finite-is t ∙ and-right (b .fine) (lt (squareAt c p t) (inf false)) (fine-before ts (sampled c p b t) h)
+  finite-first : (t : Float) (ts : List Float) (b : Best) → Limited (b .d) (b .limit) → all-of (t ∷ ts) b .fine ≡ true → finite (distanceAt c p t) ≡ true
+  unfolding through
+  finite-first t ts b k h =
+      let s = step b t k in
+      and-right (b .fine) (finite (distanceAt c p t)) (sym (s .at-fine) ∙ fine-before ts (sampled c p b t) (s .limit) h)
 
   -- every distance is finite, and the other way round
-  all-finite : (l : List Float) (b : Best) → all-of l b .fine ≡ true → (j : ℕ) → j < length l → finite (distanceAt c p (at1 plain l j)) ≡ true
+  all-finite : (l : List Float) (b : Best) → Limited (b .d) (b .limit) → all-of l b .fine ≡ true → (j : ℕ) → j < length l → finite (distanceAt c p (at1 plain l j)) ≡ true
   unfolding through
-  all-finite [] b h j k = absurd (omega arith)
-  all-finite (t ∷ ts) b h zero k = finite-first t ts b h
-  all-finite (t ∷ ts) b h (suc j) k = all-finite ts (sampled c p b t) h j (omega arith)
+  all-finite [] b q h j k = absurd (omega arith)
+  all-finite (t ∷ ts) b q h zero k = finite-first t ts b q h
+  all-finite (t ∷ ts) b q h (suc j) k = all-finite ts (sampled c p b t) (step b t q .limit) h j (omega arith)
 
-  finite-all : (l : List Float) (b : Best) → b .fine ≡ true → ((j : ℕ) → j < length l → finite (distanceAt c p (at1 plain l j)) ≡ true) → all-of l b .fine ≡ true
-  unfolding through sampled
-  finite-all [] b h g = h
-  finite-all (t ∷ ts) b h g = finite-all ts (sampled c p b t) (rw (h, ← finite-is t, g 0 (omega arith))) (λ j k. g (suc j) (omega arith))
+  finite-all : (l : List Float) (b : Best) → Limited (b .d) (b .limit) → b .fine ≡ true → ((j : ℕ) → j < length l → finite (distanceAt c p (at1 plain l j)) ≡ true) → all-of l b .fine ≡ true
+  unfolding through
+  finite-all [] b q h g = h
+  finite-all (t ∷ ts) b q h g =
+      let s = step b t q in
+      finite-all ts (sampled c p b t) (s .limit) (s .at-fine ∙ and-both (b .fine) (finite (distanceAt c p t)) h (g 0 (omega arith))) (λ j k. g (suc j) (omega arith))
 
   -- ---- what the samples l make of b: it stays, or one of them takes its place
   record Stays (l : List Float) (b r : Best) : Type 0 where
@@ -187,25 +224,25 @@ module _ (c : Shape Float) (p : Vector Float) where
           let q : lt (r .d) (b .d) ≡ true = rw at-d at (k .less) in
           inr (record { own = k .own; less = q; one = first-more t ts (rw (k .own) at (lt-le-trans (r .d) (b .d) d q farther)) (k .one) })
 
-  goes : (l : List Float) (b : Best) → Squared (b .d) (b .square) → isNan (b .d) ≡ false → all-of l b .fine ≡ true → Stays l b (all-of l b) ⊎ Taken l b (all-of l b)
-  unfolding through sampled
+  goes : (l : List Float) (b : Best) → Limited (b .d) (b .limit) → isNan (b .d) ≡ false → all-of l b .fine ≡ true → Stays l b (all-of l b) ⊎ Taken l b (all-of l b)
+  unfolding through
   goes [] b q n h = inl (record { same-t = refl; same-d = refl; none = λ j k. absurd (omega arith) })
   goes (t ∷ ts) b q n h =
-      let good = finite-first t ts b h in
-      let r = nearer-is b t q in
+      let good = finite-first t ts b q h in
+      let s = step b t q in
+      let b₁ = sampled c p b t in
       by-two (lt (distanceAt c p t) (b .d))
       (λ e.
-      inr
-      (now-taken t ts b (sampled c p b t) (all-of ts (sampled c p b t)) good e (rw (r, e)) (rw (r, e))
-      (goes ts (sampled c p b t) (rw (r, e) (squared t)) (rw (r, e) (finite-no-nan (distanceAt c p t) good)) h)))
+      let d : b₁ .d ≡ distanceAt c p t = rw e at (s .at-d) in
+      inr (now-taken t ts b b₁ (all-of ts b₁) good e (rw e at (s .at-t)) d (goes ts b₁ (s .limit) (rw d (finite-no-nan (distanceAt c p t) good)) h)))
       (λ e.
-      as-before t ts b (sampled c p b t) (all-of ts (sampled c p b t)) good e n (rw (r, e)) (rw (r, e))
-      (goes ts (sampled c p b t) (rw (r, e) q) (rw (r, e) n) h))
+      let d : b₁ .d ≡ b .d = rw e at (s .at-d) in
+      as-before t ts b b₁ (all-of ts b₁) good e n (rw e at (s .at-t)) d (goes ts b₁ (s .limit) (rw d n) h))
 
   -- the first sample is nearer than infinity
   none-stays : (l : List Float) → 0 < length l → all-of l (unsampled c p) .fine ≡ true → Stays l (unsampled c p) (all-of l (unsampled c p)) → ⊥
   none-stays [] k h s = omega arith
-  none-stays (t ∷ ts) k h s = true≢false (sym (s .none 0 k) ∙ lt-not-le _ _ (below-infinity (distanceAt c p t) (finite-first t ts (unsampled c p) h)))
+  none-stays (t ∷ ts) k h s = true≢false (sym (s .none 0 k) ∙ lt-not-le _ _ (below-infinity (distanceAt c p t) (finite-first t ts (unsampled c p) of-infinity h)))
 
   least-of : (l : List Float) → 0 < length l → all-of l (unsampled c p) .fine ≡ true → FirstLeast (distanceAt c p) l (all-of l (unsampled c p) .t)
   unfolding isNan
@@ -222,8 +259,8 @@ module _ (c : Shape Float) (p : Vector Float) where
   fine-is =
       let l = samplesIn c in
       by-two (all-of l (unsampled c p) .fine)
-      (λ h. h ∙ sym (all (length l) _ (all-finite l (unsampled c p) h)))
-      (λ h. h ∙ sym (refuted (samplesFine c p) (λ e. true≢false (sym (finite-all l (unsampled c p) refl (each (length l) _ e)) ∙ h))))
+      (λ h. h ∙ sym (all (length l) _ (all-finite l (unsampled c p) of-infinity h)))
+      (λ h. h ∙ sym (refuted (samplesFine c p) (λ e. true≢false (sym (finite-all l (unsampled c p) of-infinity refl (each (length l) _ e)) ∙ h))))
 
   pub nearest-is : bestSample c p .fine ≡ true → bestSample c p .t ≡ nearestSample c p
   unfolding bestSample nearestSample

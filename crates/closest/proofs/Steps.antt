@@ -1,10 +1,11 @@
 -- One sample and one round, from what the code calls for them. Assumes nothing.
-use mathlib.Core.Path.{_≡_, ap, _∙_}
+use mathlib.Core.Path.{_≡_, sym, ap, _∙_}
 use mathlib.Core.Bool.{Bool, true, false, _&&_}
 use mathlib.Core.List.{List}
 use Prim.Native.Nat.{ℕ, _+_, _-_}
 use lib.ListN.{take}
 use lib.Ieee.{Float, inf, lt, le}
+use lib.Ieee.Scale.{finite}
 use Rattle.meaning.specs.Scalar.{plain, zero64}
 use Rattle.meaning.specs.Table.{at1}
 use Rattle.meaning.specs.Number.{sizeOf, clampOf}
@@ -19,9 +20,9 @@ use Rattle.evaluate.specs.Near.{pointNear}
 use Rattle.evaluate.proofs.Places.{same-span}
 use Rattle.evaluate.proofs.Near.{near-is}
 use Rattle.point.specs.Point.{pointOrders}
-use Rattle.distance.specs.Distance.{squareOf, distanceOf}
+use Rattle.distance_rule.specs.Distance.{squareOf, limitOf, distanceOf}
 use Rattle.closest.specs.Search.{orderIn, still, from, to, distanceAt, slopeAt, roundOf}
-use Rattle.closest.specs.Sampling.{squareAt, sampled}
+use Rattle.closest.specs.Sampling.{squareAt, beyondLimit, nextBest, sampled}
 use Rattle.closest.specs.declared.Best.{Best}
 use Rattle.closest.specs.declared.Slope.{Slope}
 use Rattle.closest.specs.declared.Progress.{Progress}
@@ -55,23 +56,27 @@ module _ (c : Shape Float) (good : Accepted (take (c .n + 4) (c .knots)) (c .n))
     slope-is e q g h = rw (← orders-are t 2, ← e, g, h, q)
 
 module _ (c : Shape Float) (p : Vector Float) where
-  -- a sample whose square is not less; of the others one that is nearer, and one that is not
-  module _ (b : Best) (t : Float) {s : Float} (e : s ≡ squareAt c p t) {fine : Bool} (q : fine ≡ (b .fine && lt s (inf false))) where
-    abbrev stays : Best
-    stays = record { t = b .t; square = b .square; d = b .d; fine = fine }
+  -- a sample whose square is past the limit; of the others one that is nearer, and one that is not
+  module _ (b : Best) (t : Float) {s : Float} (e : s ≡ squareAt c p t) {past : Bool} (q : past ≡ (le (b .limit) s && lt s (inf false))) where
+    past-limit : past ≡ beyondLimit c p b t
+    past-limit = q ∙ ap (λ (x : Float). le (b .limit) x && lt x (inf false)) e
 
-    pub beyond : le (b .square) s ≡ true → stays ≡ sampled c p b t
+    pub beyond : past ≡ true → b ≡ sampled c p b t
     unfolding sampled
-    beyond h = rw (← e, h, q)
+    beyond h = rw (sym past-limit ∙ h)
 
-    module _ (h : le (b .square) s ≡ false) {d : Float} (r : d ≡ distanceAt c p t) where
-      pub taken : lt d (b .d) ≡ true → _≡_ {A = Best} (record { t = t; square = s; d = d; fine = fine }) (sampled c p b t)
+    module _ (h : past ≡ false) {d : Float} (r : d ≡ distanceAt c p t) {fine : Bool} (g : fine ≡ (b .fine && finite d)) where
+      asked : nextBest c p b t ≡ sampled c p b t
       unfolding sampled
-      taken k = rw (← e, ← r, h, k, q)
+      asked = rw (sym past-limit ∙ h)
 
-      pub passed : lt d (b .d) ≡ false → stays ≡ sampled c p b t
-      unfolding sampled
-      passed k = rw (← e, ← r, h, k, q)
+      pub taken : lt d (b .d) ≡ true → {limit : Float} → limit ≡ limitOf s → _≡_ {A = Best} (record { t = t; limit = limit; d = d; fine = fine }) (sampled c p b t)
+      unfolding nextBest
+      taken k l = (rw (← e, ← r, k, l, g)) ∙ asked
+
+      pub passed : lt d (b .d) ≡ false → _≡_ {A = Best} (record { t = b .t; limit = b .limit; d = b .d; fine = fine }) (sampled c p b t)
+      unfolding nextBest
+      passed k = (rw (← r, k, g)) ∙ asked
 
   -- the last round and another
   module _ (s : Progress) {g : Slope} (e : g ≡ slopeAt c p (s .t)) where

@@ -1,12 +1,13 @@
 -- Inner: the samples one after the other, as the code's loop takes them, which only private contracts cite. The struct `Best` is the nearest sample so far,
--- its distance and the square of that, and whether every distance so far is finite.
-use mathlib.Core.Bool.{true, false, not, _&&_, cond}
+-- its distance, the square from which on no distance is less, and whether every distance so far is finite.
+use mathlib.Core.Bool.{Bool, true, false, _&&_, cond}
 use mathlib.Core.List.{List, [], _∷_}
 use lib.Ieee.{Float, inf, lt, le}
+use lib.Ieee.Scale.{finite}
 use Rattle.plane.specs.Vector.{Vector}
 use Rattle.shape.specs.Shape.{Shape}
 use Rattle.point.specs.Point.{pointOrders}
-use Rattle.distance.specs.Distance.{squareOf}
+use Rattle.distance_rule.specs.Distance.{squareOf, limitOf}
 use Rattle.closest.specs.Search.{orderIn, from, samplesIn, distanceAt}
 use Rattle.closest.specs.declared.Best.{Best}
 
@@ -20,17 +21,24 @@ module _ (c : Shape Float) (p : Vector Float) where
   unfoldable pub squareAt : Float → Float
   squareAt t = squareOf (orderIn (pointOrders c t 0) 0) p
 
-  -- A sample takes the place of the nearest so far only where its distance is less, so that of equal ones the first stays. Its square is asked first.
-  unfoldable pub sampled : Best → Float → Best
-  sampled b t =
-      let s = squareAt t in
+  -- its distance need not be asked: the square says that it is finite and not less
+  abbrev pub beyondLimit : Best → Float → Bool
+  beyondLimit b t = le (b .limit) (squareAt t) && lt (squareAt t) (inf false)
+
+  -- A sample takes the place of the nearest so far only where its distance is less, so that of equal ones the first stays.
+  unfoldable pub nextBest : Best → Float → Best
+  nextBest b t =
       let d = distanceAt c p t in
-      let nearer = not (le (b .square) s) && lt d (b .d) in
-      record { t = cond nearer t (b .t); square = cond nearer s (b .square); d = cond nearer d (b .d); fine = b .fine && lt s (inf false) }
+      let nearer = lt d (b .d) in
+      record { t = cond nearer t (b .t); limit = cond nearer (limitOf (squareAt t)) (b .limit); d = cond nearer d (b .d); fine = b .fine && finite d }
+
+  unfoldable pub sampled : Best → Float → Best
+  unfolding nextBest
+  sampled b t = cond (beyondLimit b t) b (nextBest b t)
 
   -- before the first sample: every finite distance is less
   abbrev pub unsampled : Best
-  unsampled = record { t = from c; square = inf false; d = inf false; fine = true }
+  unsampled = record { t = from c; limit = inf false; d = inf false; fine = true }
 
   -- after the last
   unfoldable pub bestSample : Best

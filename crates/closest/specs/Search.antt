@@ -20,7 +20,7 @@ use Rattle.outcome.specs.Outcome.{eitherWild}
 use Rattle.outcome.specs.Told.{Values, telling}
 use Rattle.point.specs.Point.{pointOrders}
 use Rattle.samples.specs.Samples.{samplesOf}
-use Rattle.distance.specs.Distance.{distanceOf}
+use Rattle.distance_rule.specs.Distance.{distanceOf}
 use Rattle.closest.specs.Nearest.{firstNearest}
 use Rattle.closest.specs.declared.Slope.{Slope}
 use Rattle.closest.specs.declared.Progress.{Progress}

@@ -26,16 +26,16 @@ use refusal::Refusal;
 
 // ---- the samples
 
-// The nearest sample so far, its distance and the square of that, and whether every distance so far is finite.
+// The nearest sample so far, its distance, the square from which on no distance is less, and whether every distance so far is finite.
 struct Best {
     t: f64,
-    square: f64,
+    limit: f64,
     d: f64,
     fine: bool,
 }
 
-// The nearest, with the sample at t, whose span is i or another. Only a smaller distance takes its place: of equal ones the first stays. A square that is not smaller has no smaller
-// root, so none is taken of it; a square below infinity has a finite root.
+// The nearest, with the sample at t, whose span is i or another. Only a smaller distance takes its place: of equal ones the first stays. A finite square from
+// the limit on has a finite distance that is not smaller, so no root is taken of it.
 fn sample<'a>(
     u: &'a [f64; 70],
     n: usize,
@@ -52,21 +52,25 @@ fn sample<'a>(
     let c = evaluate::point_near(u, n, xs, ys, t, i);
     let square = distance::square(c, p);
     let infinite = f64::from_bits(0x7ff0_0000_0000_0000);
-    let fine = number::both(b.fine, square < infinite);
-    let stays = Best {
-        t: b.t,
-        square: b.square,
-        d: b.d,
-        fine,
-    };
-    if b.square <= square {
-        return stays;
+    if number::both(b.limit <= square, square < infinite) {
+        return b;
     }
     let d = distance::distance(c, p);
+    let fine = number::both(b.fine, number::is_finite(d));
     if d < b.d {
-        return Best { t, square, d, fine };
+        return Best {
+            t,
+            limit: distance::limit(square),
+            d,
+            fine,
+        };
     }
-    stays
+    Best {
+        t: b.t,
+        limit: b.limit,
+        d: b.d,
+        fine,
+    }
 }
 
 // The nearest, with the 16 samples between knot i and the next.
@@ -122,7 +126,7 @@ fn sample_all<'a>(u: &'a [f64; 70], n: usize, xs: &'a [f64; 66], ys: &'a [f64; 6
     let infinite = f64::from_bits(0x7ff0_0000_0000_0000);
     let mut best = Best {
         t: u[0],
-        square: infinite,
+        limit: infinite,
         d: infinite,
         fine: true,
     };

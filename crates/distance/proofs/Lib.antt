@@ -1,2 +1,4 @@
--- What a square tells of its distance.
-pub mod Squares
+-- What the code makes of powers of two, and of a length.
+pub mod Powers
+pub mod Lengths
+pub mod Distances

@@ -21,6 +21,7 @@ ghost use Rattle.many.specs.Many.{many};
 ghost use Rattle.points.specs.Points.{pointsAnswer, EachInItsHull, NoneRefused};
 ghost use Rattle.measure.specs.Measure.{lengthAnswer, domainAnswer};
 ghost use Rattle.samples.specs.Samples.{counted, samplesAnswer};
+ghost use Rattle.distance_rule.specs.Distance.{distanceOf};
 ghost use Rattle.closest.specs.Search.{closestAnswer};
 ghost use Rattle.closest.specs.Many.{closestMany};
 ghost use Rattle.residual.specs.Residual as held;
@@ -511,6 +512,16 @@ pub extern "C" fn threshdune_plane_norm(ax: f64, ay: f64) -> f64
 {
     let a = P2 { x: ax, y: ay };
     a.norm()
+}
+
+// The distance of a and b.
+#[no_mangle]
+pub extern "C" fn threshdune_distance(ax: f64, ay: f64, bx: f64, by: f64) -> f64
+    ensures { λ r. ⌜ r ≡ distanceOf (record { x = ax; y = ay }) (record { x = bx; y = by }) ⌝ }
+{
+    let a = P2 { x: ax, y: ay };
+    let b = P2 { x: bx, y: by };
+    distance::distance(a, b)
 }
 
 // ---- vectors with partials

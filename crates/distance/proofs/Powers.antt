@@ -1,18 +1,17 @@
 -- The powers of two that a length is scaled by, and what scaling makes of a double. Assumes nothing.
 use mathlib.Core.Path.{_≡_, refl, sym, ap, _∙_, subst}
-use mathlib.Core.Bool.{true, false}
-use Prim.Native.Nat.{ℕ, suc, _+_, _-_, _*_, _/_, _%_, _^_, _≤_, _<_, max}
-use native.Mathlib.Nat.{le-trans, lt-of-lt-of-le, mul-one, one-mul, mul-assoc, max-eq-left, max-eq-right}
+use mathlib.Core.Bool.{false}
+use Prim.Native.Nat.{ℕ, suc, _+_, _-_, _*_, _/_, _%_, _^_, _≤_, _<_}
+use native.Mathlib.Nat.{lt-of-lt-of-le, mul-one, one-mul}
 use native.Mathlib.Omega.{arith}
 use lib.Count.{leadingZeros, leading-top}
 use lib.Dec.{T}
 use lib.Pow.{pow-add, pow-pos, pow-mono, pow-lt, shl-lt, shl-exact}
-use lib.Ieee.{Float, nan, inf, fin, binary64, mul, lt, le, round, size, ofBits, fits}
+use lib.Ieee.{Float, binary64, mul, round, size, ofBits, fits}
 use lib.Ieee.Exact.{HasValue}
 use lib.Ieee.Scale.{grid, round-same, round-val}
 use Rattle.meaning.specs.Root.{inUnits, unsigned}
 use Rattle.meaning.proofs.Values.{U-pos, mul-is}
-use Rattle.meaning.proofs.Order.{lt-le, not-lt-le}
 use Rattle.root.specs.Pattern.{patternUnits}
 use Rattle.root.proofs.Closest.{size-is}
 use Rattle.root.proofs.Patterns.{small-pattern, large-pattern, pattern-value}

@@ -3,8 +3,8 @@
 use mathlib.Core.Path.{_≡_, refl}
 use mathlib.Core.Bool.{false}
 use Prim.Native.Nat.{ℕ}
-use lib.Ieee.{Float, inf, binary64, add, sub, mul, round, ofBits}
-use Rattle.meaning.specs.Root.{inUnits, rootOf}
+use lib.Ieee.{Float, inf, binary64, add, sub, mul, ofBits}
+use Rattle.meaning.specs.Root.{rootOf}
 use Rattle.plane.specs.Vector.{Vector}
 use Rattle.distance_rule.specs.Distance.{distanceOf, unscaledOf}
 

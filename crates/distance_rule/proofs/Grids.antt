@@ -1,6 +1,6 @@
 -- Fractions rounded to doubles, in units (`grid`): between which powers of two they lie, what a power of two does to them where all digits are kept, and
 -- what a sum loses of its smaller part. Assumes nothing.
-use mathlib.Core.Path.{_≡_, refl, sym, ap, _∙_, subst}
+use mathlib.Core.Path.{_≡_, sym, ap, _∙_, subst}
 use mathlib.Core.Logic.{inl, inr}
 use Prim.Native.Nat.{ℕ, suc, _+_, _-_, _*_, _/_, _^_, _≤_, _<_}
 use native.Mathlib.Nat.{le-trans, le-antisymm, le-of-eq, le-of-lt, eq-or-lt-of-le, eq-zero-or-pos, not-le-of-lt, zero-mul, lt-of-le-of-lt, lt-of-lt-of-le, zero-lt-suc, add-mul, mul-one, mul-assoc, mul-comm, mul-left-comm, mul-right-comm, mul-le-mul, mul-le-mul-right, mul-lt-mul-of-pos-right, mul-pos, mul-div-cancel, le-div-iff-mul-le, div-lt-iff-lt-mul}
@@ -9,7 +9,7 @@ use lib.Pow.{pow-add, pow-pos, pow-mono, pow-lt, shl-lt}
 use lib.Ieee.{binary64, size}
 use lib.Ieee.Digits.{size-lt, size-le, size-reaches, back}
 use lib.Ieee.Nearest.{closest, closest-mono, div-mono}
-use lib.Ieee.Order.{drop, kept}
+use lib.Ieee.Order.{drop}
 use lib.Ieee.Scale.{grid, grid-scale, normal-of-fraction}
 use Rattle.root.proofs.Scaling.{pow-below}
 use Rattle.root.proofs.Closest.{closest-is, size-is}

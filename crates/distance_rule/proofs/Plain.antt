@@ -1,21 +1,20 @@
 -- The squares that tell their distance: from 2 ^ -967 on a distance is the root of its square, as long as that is finite, and below that no distance exceeds
 -- the root of 2 ^ -967. Assumes nothing.
 use mathlib.Core.Path.{_≡_, refl, sym, ap, _∙_, subst}
-use mathlib.Core.Bool.{Bool, true, false, not, cond, true≢false}
+use mathlib.Core.Bool.{true, false}
 use mathlib.Core.Logic.{inl, inr}
-use Prim.Native.Nat.{ℕ, zero, suc, _+_, _-_, _*_, _^_, _≤_, _<_, max, zero-le}
+use Prim.Native.Nat.{ℕ, suc, _+_, _-_, _*_, _^_, _≤_, _<_, max, zero-le}
 use native.Mathlib.Nat.{le-trans, le-of-eq, le-of-lt, lt-of-lt-of-le, lt-of-not-le, not-le-of-lt, eq-zero-or-pos, add-le-add, mul-le-mul, mul-le-mul-right, le-of-mul-le-mul-right, le-max-left, le-max-right}
 use native.Mathlib.Decide.{decLe}
 use native.Mathlib.Omega.{arith}
-use lib.Dec.{T, ltb, lit<, lit≤}
+use lib.Dec.{T, lit<, lit≤}
 use lib.Pow.{pow-pos, pow-mono}
-use lib.Ieee.{Float, nan, inf, fin, binary64, up, down, odd, units, round, sum, add, mul, lt, le, isNan, size, ofBits, fits}
-use lib.Ieee.Bits.{is-true, ofBits-fits}
+use lib.Ieee.{Float, nan, inf, fin, binary64, round, lt, le, size, ofBits, fits}
+use lib.Ieee.Bits.{ofBits-fits}
 use lib.Ieee.Digits.{size-lt, size-le}
-use lib.Ieee.Fits.{round-is}
 use lib.Ieee.Exact.{HasValue}
-use lib.Ieee.Order.{drop, kept, le-of-values, round-mono}
-use lib.Ieee.Positive.{positive, positive-of-value, above-of-le, values-of-le}
+use lib.Ieee.Order.{le-of-values, round-mono}
+use lib.Ieee.Positive.{positive, above, positive-of-value, above-of-le, values-of-le}
 use lib.Ieee.Scale.{finite}
 use Rattle.meaning.specs.Scalar.{plain}
 use Rattle.meaning.specs.Root.{inUnits, unsigned, rootOf}
@@ -23,11 +22,10 @@ use Rattle.meaning.proofs.Order.{lt-le}
 use Rattle.plane.specs.Vector.{Vector, subV}
 use Rattle.root.proofs.Squares.{root-lt}
 use Rattle.root.proofs.Patterns.{pattern-value}
-use Rattle.root.proofs.Doubles.{own-value, units-of, unsigned-of}
-use Rattle.root.proofs.Nearest.{root-nearest}
+use Rattle.root.proofs.Doubles.{own-value}
 use Rattle.root.proofs.Range.{root-fits}
 use Rattle.root.proofs.Laws.{root-mono}
-use Rattle.distance_rule.specs.Distance.{leadingPlace, scaledDown, scaledUp, lengthOf, squareOf, distanceOf, plainFrom, limitOf}
+use Rattle.distance_rule.specs.Distance.{leadingPlace, scaledDown, scaledUp, lengthOf, squareOf, distanceOf, plainFrom}
 use Rattle.distance_rule.proofs.Grids.{grid-most, added}
 use Rattle.distance_rule.proofs.Sums.{square}
 use Rattle.distance_rule.proofs.Parts.{dotOf, dot-fits, sub-fits, own-dot, scaled-dot, scaled-sum-most, root-unsigned}
@@ -41,14 +39,14 @@ units-order x y a b p q h = elim (eq-zero-or-pos a) [
   | inl z ↦ le-trans (le-of-eq z) zero-le
   | inr k ↦
       let x+ = positive-of-value x a (2 ^ 1074) p k in
-      le-of-mul-le-mul-right (values-of-le x y a (2 ^ 1074) b (2 ^ 1074) x+ (above y b q (above-of-le x y x+ h)) p q h) (pow-pos 1074)
+      le-of-mul-le-mul-right (values-of-le x y a (2 ^ 1074) b (2 ^ 1074) x+ (finite-above y b q (above-of-le x y x+ h)) p q h) (pow-pos 1074)
 ]
   where
-    above : (y : Float) (b : ℕ) → HasValue y false b (2 ^ 1074) → T (lib.Ieee.Positive.above y) → T (positive y)
-    above nan b q h = absurd q
-    above (inf s) b q h = absurd q
-    above (fin true n d) b q h = absurd h
-    above (fin false n d) b q h = h
+    finite-above : (y : Float) (b : ℕ) → HasValue y false b (2 ^ 1074) → T (above y) → T (positive y)
+    finite-above nan b q h = absurd q
+    finite-above (inf s) b q h = absurd q
+    finite-above (fin true n d) b q h = absurd h
+    finite-above (fin false n d) b q h = h
 
 -- ---- the least square that tells its distance
 

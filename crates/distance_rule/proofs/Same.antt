@@ -1,21 +1,23 @@
 -- Where the distance is the one of the rule before: with L the larger of the two differences in size, wherever L is 0, and wherever L * L is 2 ^ -969 at
 -- least (so from 2 ^ -484 on) and the distance by the rule before is finite. Assumes nothing.
 use mathlib.Core.Path.{_≡_, refl, sym, ap, _∙_, subst}
-use mathlib.Core.Bool.{Bool, true, false, _&&_}
+use mathlib.Core.Bool.{Bool, true, false, _&&_, cond, true≢false}
 use mathlib.Core.Logic.{_⊎_, inl, inr}
 use Prim.Native.Nat.{ℕ, zero, suc, _+_, _-_, _*_, _^_, _≤_, _<_, max}
-use native.Mathlib.Nat.{le-refl, le-trans, le-of-eq, le-of-lt, lt-of-lt-of-le, lt-of-not-le, add-comm, mul-assoc, mul-le-mul, max-eq-left, max-eq-right, le-max-left, le-max-right}
+use native.Mathlib.Nat.{le-trans, le-of-eq, le-of-lt, lt-of-lt-of-le, lt-of-not-le, eq-zero-or-pos, add-comm, mul-assoc, mul-le-mul, max-eq-left, max-eq-right, le-max-left, le-max-right}
 use native.Mathlib.Decide.{decLe}
 use native.Mathlib.Omega.{arith}
 use lib.Dec.{T}
-use lib.Pow.{pow-pos}
+use lib.Pow.{pow-pos, pow-mono}
 use lib.IntN.{pos}
 use lib.Ieee.{Float, nan, inf, fin, binary64, size, round, add, mul, fits}
+use lib.Ieee.Bits.{is-true}
 use lib.Ieee.Digits.{size-lt, size-reaches}
 use lib.Ieee.Exact.{HasValue}
 use lib.Ieee.Scale.{grid, finite, round-same}
 use Rattle.meaning.specs.Scalar.{plain}
-use Rattle.meaning.specs.Root.{inUnits, unsigned, rootOf}
+use Rattle.meaning.specs.Root.{inUnits, rootOf}
+use Rattle.meaning.proofs.Tests.{by-two, refuted, and-both, and-left, and-right}
 use Rattle.meaning.proofs.Values.{add-finite, mul-finite}
 use Rattle.plane.specs.Vector.{Vector, subV}
 use Rattle.root.proofs.Scaling.{pow-below}
@@ -115,11 +117,6 @@ larger a b = let d = subV plain a b in max (inUnits (d .x)) (inUnits (d .y))
 pub parts-finite : (x y : Float) → T (finite (dotOf x y)) → T (finite x) × T (finite y)
 parts-finite x y h = let f = add-finite binary64 (mul binary64 x x) (mul binary64 y y) h in (mul-finite binary64 x x (f .0) .0, mul-finite binary64 y y (f .1) .0)
 
-both-true : (p q : Bool) → T p → T q → p && q ≡ true
-both-true true true s t = refl
-both-true true false s t = absurd t
-both-true false q s t = absurd s
-
 root-finite : (s : Float) → T (plus s) → T (finite (rootOf s)) → T (finite s)
 unfolding rootOf
 root-finite nan p h = h
@@ -149,7 +146,7 @@ module _ (a b : Vector Float) where
   -- both differences are finite
   pub finite-distance : T (finite dx) → T (finite dy) → distanceOf a b ≡ lengthOf (inUnits dx) (inUnits dy)
   unfolding distanceOf
-  finite-distance f g = rw (both-true (finite dx) (finite dy) f g)
+  finite-distance f g = rw (and-both (finite dx) (finite dy) (is-true (finite dx) f) (is-true (finite dy) g))
 
   -- where the sum of the squares is finite
   pub same-as-before : T (finite (squareOf a b)) → 2 ^ 1179 ≤ larger a b * larger a b → distanceOf a b ≡ rootOf (squareOf a b)
@@ -181,3 +178,37 @@ module _ (a b : Vector Float) where
     pub zero-before : distanceOf a b ≡ unscaledOf a b
     unfolding unscaledOf squareOf
     zero-before = zero-distance ∙ sym (ap rootOf (no-sum dx dy (sub-fits (a .x) (b .x)) (sub-fits (a .y) (b .y)) f g none-x none-y) ∙ no-root)
+
+  -- ---- a difference is not finite
+
+  pub wild-before : (finite dx && finite dy) ≡ false → distanceOf a b ≡ unscaledOf a b
+  unfolding distanceOf unscaledOf squareOf
+  wild-before h = ap (λ (k : Bool). cond k (lengthOf (inUnits dx) (inUnits dy)) (rootOf (dotOf dx dy))) h
+
+  -- and the distance neither
+  pub wild-distance : (finite dx && finite dy) ≡ false → finite (distanceOf a b) ≡ false
+  unfolding unscaledOf squareOf
+  wild-distance h =
+      refuted (finite (distanceOf a b)) (λ e.
+      let f = parts-finite dx dy (root-finite (dotOf dx dy) (square-plus a b) (subst T (sym (ap finite (sym (wild-before h)) ∙ e)) tt)) in
+      true≢false (sym (and-both (finite dx) (finite dy) (is-true (finite dx) (f .0)) (is-true (finite dy) (f .1))) ∙ h))
+
+  -- ---- so it may differ only where the larger difference is not 0 and its square below 2 ^ -969, or where the rule before gives no finite distance
+
+  pub record MayDiffer : Type 0 where
+    pub numbers : (finite dx && finite dy) ≡ true
+    pub edge : ((0 < larger a b) × (larger a b * larger a b < 2 ^ 1179)) ⊎ (finite (unscaledOf a b) ≡ false)
+
+  pub same-or : (distanceOf a b ≡ unscaledOf a b) ⊎ MayDiffer
+  same-or = by-two (finite dx && finite dy) (λ h. both h (eq-zero-or-pos (larger a b)) (decLe (2 ^ 1179) (larger a b * larger a b))) (λ h. inl (wild-before h))
+    where
+      both : (finite dx && finite dy) ≡ true → (larger a b ≡ 0) ⊎ (0 < larger a b) → Dec (2 ^ 1179 ≤ larger a b * larger a b) → (distanceOf a b ≡ unscaledOf a b) ⊎ MayDiffer
+      both h (inl z) k =
+          inl (zero-before (subst T (sym (and-left (finite dx) (finite dy) h)) tt) (subst T (sym (and-right (finite dx) (finite dy) h)) tt) z)
+      both h (inr p) (yes k) =
+          by-two (finite (unscaledOf a b)) (λ g. inl (as-before (subst T (sym g) tt) k)) (λ g. inr (record { numbers = h; edge = inr g }))
+      both h (inr p) (no k) = inr (record { numbers = h; edge = inl (p, lt-of-not-le k) })
+
+-- from 2 ^ -484 on
+pub size-enough : (n : ℕ) → 2 ^ 590 ≤ n → 2 ^ 1179 ≤ n * n
+size-enough n h = le-trans (pow-mono {i = 1179} {j = 1180} (omega arith)) (mul-le-mul h h)

@@ -8,7 +8,6 @@ use lib.Ieee.Fits.{round-is}
 use lib.Ieee.Order.{drop, kept}
 use lib.Ieee.Scale.{finite}
 use Rattle.meaning.specs.Scalar.{plain}
-use Rattle.meaning.specs.Root.{rootOf}
 use Rattle.plane.specs.Vector.{Vector, subV}
 use Rattle.distance_rule.specs.Distance.{squareOf}
 use Rattle.distance_rule.proofs.Parts.{dot-fits}

@@ -3,7 +3,7 @@
 use mathlib.Core.Path.{_≡_, refl, sym, ap, _∙_, subst}
 use mathlib.Core.Logic.{inl, inr}
 use Prim.Native.Nat.{ℕ, suc, _+_, _-_, _*_, _/_, _^_, _≤_, _<_}
-use native.Mathlib.Nat.{le-refl, le-trans, le-of-eq, le-of-lt, lt-of-le-of-lt, lt-of-lt-of-le, lt-of-not-le, not-le-of-lt, eq-or-lt-of-le, mul-one, mul-assoc, mul-comm, mul-left-comm, mul-right-comm, mul-le-mul, mul-le-mul-right, mul-lt-mul-of-pos-right, mul-pos, mul-div-cancel, mul-mul-mul-comm, div-lt-iff-lt-mul, eq-of-mul-eq-mul-right, le-of-mul-le-mul-right, lt-of-mul-lt-mul-right}
+use native.Mathlib.Nat.{le-refl, le-trans, le-of-eq, le-of-lt, lt-of-le-of-lt, lt-of-lt-of-le, lt-of-not-le, eq-or-lt-of-le, mul-one, mul-assoc, mul-comm, mul-right-comm, mul-le-mul, mul-le-mul-right, mul-pos, mul-div-cancel, mul-mul-mul-comm, div-lt-iff-lt-mul, eq-of-mul-eq-mul-right, le-of-mul-le-mul-right, lt-of-mul-lt-mul-right}
 use native.Mathlib.Decide.{decLe}
 use native.Mathlib.Omega.{arith}
 use lib.Dec.{lit<, lit≤}
@@ -15,7 +15,7 @@ use lib.Ieee.Order.{drop}
 use lib.Ieee.Scale.{grid}
 use Rattle.root.proofs.Squares.{sq-mono, sq-lt}
 use Rattle.root.proofs.Scaling.{pow-below, shift-add}
-use Rattle.distance_rule.proofs.Grids.{closest-exact, closest-most, join, grid-most, grid-least, grid-mono, grid-same, Held, Full, full, digits, grid-digits, added, added-digits, added-small}
+use Rattle.distance_rule.proofs.Grids.{closest-exact, closest-most, join, grid-most, grid-least, grid-mono, grid-same, Held, full, digits, grid-digits, added, added-digits, added-small}
 
 -- ---- what a fraction is rounded to is held
 

@@ -17,6 +17,11 @@ fn b() -> [f64; 8] {
     [0.0, 0.0, 1.0, 2.0, 2.0, 4.0, 3.0, 6.0]
 }
 
+// B times u.
+fn b_times(u: f64) -> [f64; 8] {
+    [0.0, 0.0, u, 2.0 * u, 2.0 * u, 4.0 * u, 3.0 * u, 6.0 * u]
+}
+
 // The curve with these control points over uniform knots.
 fn uniform(points: &[f64; 8]) -> Built {
     build::build(Form::Control, points, false, &[], &mut [])
@@ -115,6 +120,14 @@ fn print_questions() {
     print_told(closest::closest(uniform(&b()).curve, 1.5, 3.0));
     io::write_all(STDOUT_FILENO, b"A closest to (4,0): ");
     print_told(closest::closest(uniform(&a()).curve, 4.0, 0.0));
+    io::write_all(STDOUT_FILENO, b"A closest to (1e200,4): ");
+    print_told(closest::closest(uniform(&a()).curve, 1e200, 4.0));
+    io::write_all(
+        STDOUT_FILENO,
+        b"B times 2^-600 closest to (1.5,3) times 2^-600: ",
+    );
+    let u = 2.409919865102884e-181;
+    print_told(closest::closest(uniform(&b_times(u)).curve, 1.5 * u, 3.0 * u));
     io::write_all(STDOUT_FILENO, b"order 4: ");
     print_order(4);
     io::write_all(STDOUT_FILENO, b"order 5: ");

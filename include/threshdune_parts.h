@@ -84,6 +84,10 @@ uint64_t threshdune_plane_rot90(double ax, double ay, double *out, size_t out_le
 double threshdune_plane_dot(double ax, double ay, double bx, double by);
 double threshdune_plane_cross(double ax, double ay, double bx, double by);
 double threshdune_plane_norm(double ax, double ay);
+/* The distance of two points, by which the closest parameter is searched: as the length of their
+ * difference, but that nothing vanishes or overflows on the way, since the difference is scaled by a
+ * power of two before it is squared. Not finite where a difference is not, or where it is too large. */
+double threshdune_distance(double ax, double ay, double bx, double by);
 
 /* ---- vectors with partials
  *

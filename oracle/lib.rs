@@ -2,7 +2,7 @@
 //! holds either the original's folder itself or its copy with the one distance replaced.
 //!
 //! The original's own `pub` items are reached through `spline` and `point_on_spline`; what it keeps
-//! `pub(crate)` goes through `access`.
+//! `pub(crate)` goes through `access`. That copy alone calls `distance`.
 
 // Parts of the original serve kernels that are not here.
 #![allow(dead_code)]
@@ -12,6 +12,8 @@ pub mod spline;
 
 #[path = "source/constraints/point_on_spline.rs"]
 pub mod point_on_spline;
+
+pub mod distance;
 
 /// Stands in for the original's module: the fields that the two files read.
 pub mod geometry {

@@ -1,9 +1,13 @@
 //! The numbers of docs/RULES.md, "Numbers to check by", as far as the original alone can show them,
 //! and case S, which is the curve A at 0.25 and at 2. Linked with one of the two builds under the
-//! name `oracle`. With the argument `closest` also the closest parameters, which belong to the
-//! replaced distance. Stops at the first number that is not as written.
+//! name `oracle`. With the argument `closest` also the distances and the closest parameters, which
+//! belong to the replaced distance. Stops at the first number that is not as written.
+//!
+//! With the argument `distances` nothing of that: a line of standard input has two points, four
+//! doubles by their bits, and one of standard output their distance (tools/check-distance).
 
 use oracle::access;
+use oracle::distance::distance;
 use oracle::spline::{BSpline, Curve, Dv, P2, Scalar, check, closest_param};
 
 type Points = [[f64; 2]];
@@ -14,13 +18,18 @@ const THRICE: [f64; 11] = [0.0, 0.0, 0.0, 0.0, 0.5, 0.5, 0.5, 1.0, 1.0, 1.0, 1.0
 const FOUR_TIMES: [f64; 12] = [0.0, 0.0, 0.0, 0.0, 0.5, 0.5, 0.5, 0.5, 1.0, 1.0, 1.0, 1.0];
 
 fn main() {
+    let asked = |what: &str| std::env::args().any(|word| word == what);
+    if asked("distances") {
+        return answer_distances();
+    }
     evaluations();
     fits();
     spans();
     checks();
     partials();
     stand_ins();
-    if std::env::args().any(|word| word == "closest") {
+    if asked("closest") {
+        distances();
         closest();
     }
 }
@@ -144,6 +153,39 @@ fn stand_ins() {
     );
     let (_, tangent) = access::point_tangent(&control(&A, None), 0.5);
     expect("unit tangent of A at 0.5", &tangent, &[1.0, 0.0]);
+}
+
+/// Not in docs/RULES.md but for their rule: what the scale is for.
+fn distances() {
+    let far = |what: &str, [dx, dy, written]: [f64; 3]| {
+        expect(what, &[distance([dx, 0.0], [0.0, dy])], &[written]);
+    };
+    let power = |k: i64| f64::from_bits(((1023 + k) as u64) << 52);
+    let times = |k: i64| [3.0, 4.0, 5.0].map(|x| x * power(k));
+    far("distance by 3 and 4", times(0));
+    far("distance by 3 and 4 times 2^600", times(600));
+    far("distance by 3 and 4 times 2^-1000", times(-1000));
+    far("distance by 3 and 4 units", [3, 4, 5].map(f64::from_bits));
+    far("distance by 0 and -0", [0.0, -0.0, 0.0]);
+    // 28E8F19 and a half less 3e-9, which as a double is the half; that goes to the even number
+    let twice = [0x28E_8CAF, 0x3_83D3, 0x28E_8F1A];
+    far(
+        "distance by a root rounded again",
+        twice.map(f64::from_bits),
+    );
+    far("distance too large", [f64::MAX, f64::MAX, f64::INFINITY]);
+}
+
+fn answer_distances() {
+    let bits = |word: &str| u64::from_str_radix(word, 16).expect("bits of a double");
+    for line in std::io::stdin().lines() {
+        let line = line.expect("text");
+        let numbers: Vec<f64> = line.split(' ').map(bits).map(f64::from_bits).collect();
+        let [ax, ay, bx, by] = numbers[..] else {
+            panic!("not two points: {line}");
+        };
+        println!("{:016X}", distance([ax, ay], [bx, by]).to_bits());
+    }
 }
 
 fn closest() {

@@ -1,6 +1,6 @@
 //! The closest parameter on a fit of 64 points, 1,009 samples of it and then Newton's rounds. Ours goes in by the public door, which checks
-//! the curve anew each time; the Rust, as it was published, does not. The points searched for lie clear of ties, so that its `hypot` and our root find
-//! the same parameter.
+//! the curve anew each time; the Rust, as it was published, does not. The points searched for lie clear of ties, so that its `hypot` and our
+//! distance find the same parameter.
 
 use crate::fits::wave;
 use crate::floor::Floor;

@@ -1,6 +1,6 @@
 //! A floor: the same numbers by the same rules, in Rust written for speed alone. Nothing is checked and nothing is allocated; a curve
-//! stands in arrays, the span is found by halving, and A2.3 is written out for the orders 0 to 2. The closest search takes no root. A fit is the
-//! dense one, its rows in an array.
+//! stands in arrays, the span is found by halving, and A2.3 is written out for the orders 0 to 2. The closest search takes no root and scales
+//! nothing, which finds the same samples at the sizes that are timed. A fit is the dense one, its rows in an array.
 
 pub struct Floor {
     n: usize,

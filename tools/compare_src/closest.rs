@@ -1,7 +1,9 @@
 //! The closest parameter, against the original with its one `hypot` replaced (docs/RULES.md, "Distance"). The same searches are made with the
-//! unaltered file: where it finds another parameter is counted, and the shortest of these searches are told.
+//! unaltered file: where it finds another parameter is counted by cause, and the shortest of these searches are told. Counted is also what the
+//! plain root of the sum of squares, the rule as it was, would have found otherwise.
 
 use crate::asked::{Form, Room, Wanted, door, points};
+use crate::distances::{plain, power, scaled};
 use crate::fits::fit_points;
 use crate::layouts::{Layout, inside, mirror, not_finite, stepped, uniform};
 use crate::ours;
@@ -9,22 +11,17 @@ use crate::random::{Flavour, Random};
 use crate::records::Record;
 use crate::table::{NOT_FINITE, Table, their_check_of};
 use crate::tally::{Tally, hex, same};
+use replaced::distance::distance;
 use replaced::spline::{BSpline, Curve, P2, closest_param};
 
 /// How many disagreements of the unaltered file are told.
 const TOLD: usize = 6;
-/// 2^-484: the squares of smaller distances are subnormal, so that they lose digits, or 0.
-const VANISHING: f64 = f64::from_bits((1023 - 484) << 52);
+/// The squares of smaller distances are subnormal, so that they lose digits, or 0.
+const TINY: f64 = power(-484);
 /// How many doubles apart two distances of a near tie are at most.
 const TIE: u64 = 2;
-
-/// Why the unaltered file finds another parameter.
-#[derive(Clone, Copy)]
-enum Cause {
-    Vanishing,
-    Tie,
-    Unknown,
-}
+/// The exponents of the scales that drawings are brought to.
+const SCALES: [i64; 2] = [-1060, 1020];
 
 pub fn run(random: &mut Random, rounds: u64) -> Tally {
     let mut tally = Tally::default();
@@ -50,10 +47,12 @@ pub fn run(random: &mut Random, rounds: u64) -> Tally {
             if ends.contains(t) {
                 tally.kind("answers at an end of the domain");
             }
+            tally.kind(drawn.scale_kinds()[0]);
             unlike.take(&search, drawn.kind, *t, &mut tally);
         }
         if wanted.number == NOT_FINITE {
-            unlike.refused(&search, &mut tally);
+            tally.kind(drawn.scale_kinds()[1]);
+            refused(&search, &mut tally);
         }
     }
     unlike.note(&mut tally);
@@ -94,7 +93,7 @@ impl<'a> Search<'a> {
         }
     }
 
-    fn judge(&self, random: &mut Random, tally: &mut Tally) -> Wanted {
+    pub fn judge(&self, random: &mut Random, tally: &mut Tally) -> Wanted {
         let mut room = Room::behind(random, 1);
         let [px, py] = self.point;
         let refusal = door!(
@@ -122,16 +121,9 @@ impl<'a> Search<'a> {
     /// Nothing where a sample's distance is not finite or the parameter is a NaN.
     pub fn theirs(&self) -> Option<Vec<Vec<f64>>> {
         let (curve, p) = (curve(&self.points, self.knots), self.point);
-        let distance = |t: f64| {
-            let c = curve.eval(&t, 0)[0].val();
-            let d = [c[0] - p[0], c[1] - p[1]];
-            (d[0] * d[0] + d[1] * d[1]).sqrt()
-        };
-        let fine = curve
-            .samples(16)
-            .into_iter()
-            .all(|t| distance(t).is_finite());
-        let t = fine.then(|| closest_param(&curve, p))?;
+        let fine = |t: f64| distance(curve.eval(&t, 0)[0].val(), p).is_finite();
+        let all = curve.samples(16).into_iter().all(fine);
+        let t = all.then(|| closest_param(&curve, p))?;
         (!t.is_nan()).then(|| vec![vec![t]])
     }
 
@@ -143,30 +135,27 @@ impl<'a> Search<'a> {
         closest_param(&curve, self.point)
     }
 
-    /// Why `hypot` and the root choose different samples, by the distances that `hypot` gives them.
-    fn cause(&self) -> Cause {
-        let curve = curve(&self.points, self.knots);
-        let difference = |t: f64| {
-            let c = curve.eval(&t, 0)[0].val();
-            [c[0] - self.point[0], c[1] - self.point[1]]
-        };
-        let samples = curve.samples(16);
-        let least = |distance: fn([f64; 2]) -> f64| {
-            let each = samples.iter().map(|t| difference(*t));
-            let chosen = each.min_by(|a, b| distance(*a).total_cmp(&distance(*b)));
-            let [x, y] = chosen.expect("the domain's end at least");
-            x.hypot(y)
-        };
-        let by_root = least(|[x, y]| (x * x + y * y).sqrt());
-        let by_hypot = least(|[x, y]| x.hypot(y));
-        let steps = by_root.to_bits() - by_hypot.to_bits();
-        if by_hypot < VANISHING {
-            Cause::Vanishing
-        } else if steps <= TIE {
-            Cause::Tie
-        } else {
-            Cause::Unknown
+    /// Whether Newton's rounds from there meet an infinity or a NaN. Where the step is infinite then, the next parameter is an end of
+    /// the domain; where it is 0, the last.
+    fn overflows_from(&self, mut t: f64) -> bool {
+        let (curve, p) = (curve(&self.points, self.knots), self.point);
+        let (lo, hi) = curve.domain();
+        for _ in 0..30 {
+            let orders = curve.eval(&t, 2);
+            let [c, c1, c2] = [0, 1, 2].map(|k: usize| orders[k].val());
+            let w = [c[0] - p[0], c[1] - p[1]];
+            let f = w[0] * c1[0] + w[1] * c1[1];
+            let df = c1[0] * c1[0] + c1[1] * c1[1] + w[0] * c2[0] + w[1] * c2[1];
+            if !f.is_finite() || !df.is_finite() {
+                return true;
+            }
+            let next = (t - f / df).clamp(lo, hi);
+            if df <= 0.0 || (next - t).abs() < 1e-15 {
+                return false;
+            }
+            t = next;
         }
+        false
     }
 
     fn tell(&self) -> String {
@@ -180,51 +169,168 @@ fn curve(points: &[[f64; 2]], knots: &[f64]) -> Curve<f64> {
     Curve::new(handles.collect(), false, Some(knots))
 }
 
+/// The samples of a search, by what they differ from its point.
+struct Samples {
+    at: Vec<f64>,
+    /// Whether the points of the curve are finite.
+    finite: bool,
+    differences: Vec<[f64; 2]>,
+}
+
+type Rule = fn([f64; 2]) -> f64;
+
+fn hypot([dx, dy]: [f64; 2]) -> f64 {
+    dx.hypot(dy)
+}
+
+impl Samples {
+    fn of(search: &Search) -> Self {
+        let curve = curve(&search.points, search.knots);
+        let [px, py] = search.point;
+        let at = curve.samples(16);
+        let points: Vec<[f64; 2]> = at.iter().map(|t| curve.eval(t, 0)[0].val()).collect();
+        Samples {
+            at,
+            finite: points.as_flattened().iter().all(|x| x.is_finite()),
+            differences: points.iter().map(|[x, y]| [x - px, y - py]).collect(),
+        }
+    }
+
+    /// The place of the nearest, the first of equals.
+    fn nearest(&self, rule: Rule) -> usize {
+        let distance = |k: usize| rule(self.differences[k]);
+        (0..self.differences.len())
+            .min_by(|&a, &b| distance(a).total_cmp(&distance(b)))
+            .expect("the domain's end at least")
+    }
+
+    fn all_finite(&self, rule: Rule) -> bool {
+        self.differences.iter().all(|d| rule(*d).is_finite())
+    }
+
+    /// How many doubles apart the least distances are, by `hypot`: that of the sample which we choose, and that of its own.
+    fn apart(&self) -> u64 {
+        let by_hypot = |rule: Rule| hypot(self.differences[self.nearest(rule)]).to_bits();
+        by_hypot(scaled) - by_hypot(hypot)
+    }
+
+    fn is_tiny(&self) -> bool {
+        hypot(self.differences[self.nearest(hypot)]) < TINY
+    }
+
+    /// What the rule as it was would have made of a search that is answered. No distance mends what overflows after it: such an answer may be
+    /// far off, and where 15 was given before, that is no cure.
+    fn cured(&self, search: &Search, tally: &mut Tally) {
+        let refused = !self.all_finite(plain);
+        let overflows = search.overflows_from(self.at[self.nearest(scaled)]);
+        match (refused, overflows) {
+            (true, false) => tally.kind("(cured: 15 by the old rule)"),
+            (true, true) => {
+                tally.kind("(not cured: Newton's products overflow, 15 by the old rule)")
+            }
+            (false, true) => tally.kind("(not cured: Newton's products overflow)"),
+            (false, false) => {}
+        }
+        if !refused && self.nearest(plain) != self.nearest(scaled) {
+            tally.kind("(cured: another sample by the old rule)");
+        }
+    }
+
+    /// Why 15 is given, and the same where the unaltered file finds a parameter.
+    fn cause_of_15(&self) -> [&'static str; 2] {
+        let differences = self.differences.as_flattened();
+        if !self.finite {
+            [
+                "(15: a sample is not finite)",
+                "(15: a sample is not finite; unaltered: a parameter)",
+            ]
+        } else if !differences.iter().all(|d| d.is_finite()) {
+            [
+                "(15: a difference overflowed)",
+                "(15: a difference overflowed; unaltered: a parameter)",
+            ]
+        } else if !self.all_finite(scaled) {
+            [
+                "(15: a distance overflowed)",
+                "(15: a distance overflowed; unaltered: a parameter)",
+            ]
+        } else if self.apart() <= TIE {
+            [
+                "(15: the rounds ended at a NaN)",
+                "(15: the rounds ended at a NaN; unaltered: a parameter, by a near tie)",
+            ]
+        } else {
+            [
+                "(15: the rounds ended at a NaN)",
+                "(15: the rounds ended at a NaN; unaltered: a parameter, NOT EXPLAINED)",
+            ]
+        }
+    }
+}
+
 /// Where the unaltered file finds another parameter.
 #[derive(Default)]
 struct Unlike {
-    /// The shortest, by the length of their inputs, that a near tie explains.
+    /// The shortest, by the length of their inputs.
     told: Vec<(usize, String)>,
+    /// How many doubles apart two distances were at most.
+    apart: u64,
 }
 
 impl Unlike {
     fn take(&mut self, search: &Search, kind: &'static str, t: f64, tally: &mut Tally) {
-        let theirs = search.unaltered();
+        let (theirs, samples) = (search.unaltered(), Samples::of(search));
+        samples.cured(search, tally);
         if same(t, theirs) {
+            if samples.is_tiny() {
+                tally.kind("(unaltered: the same parameter, the least distance below 2^-484)");
+            }
             return;
         }
-        tally.kind("(the unaltered file finds another parameter)");
-        let cause = search.cause();
-        tally.kind(match (cause, kind.contains("mirrored")) {
-            (Cause::Vanishing, _) => "(of these the least distance is below 2^-484)",
-            (Cause::Tie, true) => "(of these by a near tie, mirrored)",
-            (Cause::Tie, false) => "(of these by a near tie, not mirrored)",
-            (Cause::Unknown, _) => "(of these NOT EXPLAINED)",
-        });
-        let long = search.points.len();
-        let told = matches!((&search.form, cause), (Form::Slices { .. }, Cause::Tie));
-        if told && (self.told.len() < TOLD || long < self.told[TOLD - 1].0) {
-            let [ours, theirs] = [t, theirs].map(|t| hex(&[t]));
-            let words = format!(
-                "{}: {ours} with the root, {theirs} with hypot",
-                search.tell()
-            );
-            self.told.push((long, words));
-            self.told.sort_by_key(|(long, _)| *long);
-            self.told.truncate(TOLD);
+        let apart = samples.apart();
+        tally.kind("(unaltered: another parameter)");
+        tally.kind(
+            match (apart, samples.is_tiny(), kind.contains("mirrored")) {
+                (..=TIE, true, _) => "(unaltered: another parameter, by a near tie below 2^-484)",
+                (..=TIE, _, true) => "(unaltered: another parameter, by a near tie, mirrored)",
+                (..=TIE, _, false) => "(unaltered: another parameter, by a near tie, not mirrored)",
+                _ => "(unaltered: another parameter, NOT EXPLAINED)",
+            },
+        );
+        self.apart = self.apart.max(apart);
+        if matches!(search.form, Form::Slices { .. }) {
+            self.tell(search, [t, theirs]);
         }
     }
 
-    fn refused(&mut self, search: &Search, tally: &mut Tally) {
-        if !search.unaltered().is_nan() {
-            tally.kind("(the unaltered file finds a parameter where 15 is given)");
+    fn tell(&mut self, search: &Search, found: [f64; 2]) {
+        let long = search.points.len();
+        if self.told.len() == TOLD && long >= self.told[TOLD - 1].0 {
+            return;
         }
+        let [ours, theirs] = found.map(|t| hex(&[t]));
+        let words = format!("{}: {ours}, {theirs} with hypot", search.tell());
+        self.told.push((long, words));
+        self.told.sort_by_key(|(long, _)| *long);
+        self.told.truncate(TOLD);
     }
 
     fn note(self, tally: &mut Tally) {
+        let apart = self.apart;
+        tally.note(format!(
+            "distances of near ties {apart} doubles apart at most"
+        ));
         for (_, words) in self.told {
             tally.note(format!("another parameter {words}"));
         }
+    }
+}
+
+fn refused(search: &Search, tally: &mut Tally) {
+    let [kind, found] = Samples::of(search).cause_of_15();
+    tally.kind(kind);
+    if !search.unaltered().is_nan() {
+        tally.kind(found);
     }
 }
 
@@ -234,12 +340,17 @@ pub struct Drawn {
     pub kind: &'static str,
     /// A point that lies equally far from two or more points of the curve.
     middle: [f64; 2],
+    /// What the drawing was multiplied by: 2 to this.
+    exponent: i64,
 }
 
 impl Drawn {
     /// A messy one has one damage or two, another seldom one.
     pub fn draw_damaged(random: &mut Random, messy: bool) -> Self {
         let mut drawn = Drawn::draw(random);
+        if random.once_in(4) {
+            drawn.scale(random.within(SCALES[0], SCALES[1]));
+        }
         let damages = match random.below(24) {
             _ if messy => 1 + random.below(2),
             0 => 1,
@@ -247,6 +358,15 @@ impl Drawn {
         };
         (0..damages).for_each(|_| drawn.layout.damage(random));
         drawn
+    }
+
+    fn of(layout: Layout, kind: &'static str, middle: [f64; 2]) -> Self {
+        Drawn {
+            layout,
+            kind,
+            middle,
+            exponent: 0,
+        }
     }
 
     fn draw(random: &mut Random) -> Self {
@@ -259,15 +379,47 @@ impl Drawn {
             0..3 => {
                 let layout = Layout::draw_of(random, n);
                 let middle = middle(&layout.coords);
-                Drawn {
-                    layout,
-                    kind: "control points",
-                    middle,
-                }
+                Drawn::of(layout, "control points", middle)
             }
             3 => closed(random, n),
             4 | 5 => mirrored(random, n),
             _ => fit(random, n - 2),
+        }
+    }
+
+    /// Multiplies the drawing by 2^exponent, each number rounded by itself, but leaves it where one would not be finite.
+    fn scale(&mut self, exponent: i64) {
+        let times = |x: &mut f64| *x *= power(exponent);
+        let (mut coords, mut middle) = (self.layout.coords.clone(), self.middle);
+        coords.iter_mut().chain(&mut middle).for_each(times);
+        if coords.iter().chain(&middle).all(|x| x.is_finite()) {
+            self.layout.coords = coords;
+            self.middle = middle;
+            self.exponent = exponent;
+        }
+    }
+
+    /// A coordinate meant for the drawing as it was before, stopped at the largest double.
+    fn to_scale(&self, x: f64) -> f64 {
+        (x * power(self.exponent)).clamp(f64::MIN, f64::MAX)
+    }
+
+    /// What is counted of an answer and of a 15.
+    fn scale_kinds(&self) -> [&'static str; 2] {
+        match self.exponent {
+            0 => ["not scaled, answered", "not scaled, refused 15"],
+            ..-484 => [
+                "scaled by 2^-1060 to 2^-485, answered",
+                "scaled by 2^-1060 to 2^-485, refused 15",
+            ],
+            -484..500 => [
+                "scaled by 2^-484 to 2^499, answered",
+                "scaled by 2^-484 to 2^499, refused 15",
+            ],
+            _ => [
+                "scaled by 2^500 to 2^1020, answered",
+                "scaled by 2^500 to 2^1020, refused 15",
+            ],
         }
     }
 
@@ -304,7 +456,7 @@ impl Drawn {
             }
             7 => {
                 let [x, y] = [(); 2].map(|_| random.of_exponents(8, 40));
-                ([x, y], "far away")
+                ([x, y].map(|x| self.to_scale(x)), "far away")
             }
             8 => {
                 let [x, y] = [(); 2].map(|_| random.of_exponents(400, 1023));
@@ -322,7 +474,7 @@ impl Drawn {
                     true => random.double(Flavour::Small),
                     false => random.of_exponents(-8, 8),
                 };
-                ([x, y], "on the axis")
+                ([x, self.to_scale(y)], "on the axis")
             }
         }
     }
@@ -354,11 +506,11 @@ fn mirrored(random: &mut Random, n: usize) -> Drawn {
         true => uniform(n),
         false => symmetric_knots(random, n),
     };
-    Drawn {
-        layout: Layout::of((coords, "mirrored"), (knots, "mirrored")),
-        kind: "control points mirrored",
-        middle: [0.0, random.double(flavour) * scale],
-    }
+    Drawn::of(
+        Layout::of((coords, "mirrored"), (knots, "mirrored")),
+        "control points mirrored",
+        [0.0, random.double(flavour) * scale],
+    )
 }
 
 /// About 0.
@@ -386,11 +538,11 @@ fn closed(random: &mut Random, n: usize) -> Drawn {
         .collect();
     let end = coords.len() - 2;
     coords.copy_within(0..2, end);
-    Drawn {
-        layout: Layout::of((coords, "closed"), (uniform(n), "closed")),
-        kind: "control points of a ring",
-        middle: [0.0; 2],
-    }
+    Drawn::of(
+        Layout::of((coords, "closed"), (uniform(n), "closed")),
+        "control points of a ring",
+        [0.0; 2],
+    )
 }
 
 /// A fit; its control points where they are finite, else those of its points.
@@ -402,12 +554,9 @@ fn fit(random: &mut Random, n: usize) -> Drawn {
         "points mirrored" => [0.0, random.double(Flavour::Small)],
         _ => middle(&coords),
     };
-    Drawn {
-        layout: Layout::of((control, kind), (fit.knots, kind)),
-        kind: match kind {
-            "points mirrored" => "a fit of mirrored points",
-            _ => "a fit",
-        },
-        middle,
-    }
+    let of = match kind {
+        "points mirrored" => "a fit of mirrored points",
+        _ => "a fit",
+    };
+    Drawn::of(Layout::of((control, kind), (fit.knots, kind)), of, middle)
 }

@@ -9,6 +9,7 @@ mod asked;
 mod basis;
 mod closest;
 mod curves;
+mod distances;
 mod exact;
 mod fits;
 mod hull;
@@ -27,6 +28,7 @@ mod random;
 mod records;
 mod residuals;
 mod roots;
+mod scales;
 mod table;
 mod tally;
 mod told;
@@ -104,14 +106,24 @@ const SECTIONS: &[Section] = &[
         run: residuals::run,
     },
     Section {
+        name: "distances",
+        rounds: 4_000_000,
+        run: distances::run,
+    },
+    Section {
         name: "closest",
-        rounds: 320_000,
+        rounds: 400_000,
         run: closest::run,
     },
     Section {
         name: "many closest",
         rounds: 40_000,
         run: marks::run,
+    },
+    Section {
+        name: "scales",
+        rounds: 256,
+        run: scales::run,
     },
     Section {
         name: "hull",

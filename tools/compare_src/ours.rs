@@ -11,6 +11,7 @@ mod c {
         pub fn threshdune_plane_dot(ax: f64, ay: f64, bx: f64, by: f64) -> f64;
         pub fn threshdune_plane_cross(ax: f64, ay: f64, bx: f64, by: f64) -> f64;
         pub fn threshdune_plane_norm(ax: f64, ay: f64) -> f64;
+        pub fn threshdune_distance(ax: f64, ay: f64, bx: f64, by: f64) -> f64;
     }
 }
 
@@ -46,6 +47,10 @@ pub fn plane_cross(a: [f64; 2], b: [f64; 2]) -> f64 {
 
 pub fn plane_norm(a: [f64; 2]) -> f64 {
     unsafe { c::threshdune_plane_norm(a[0], a[1]) }
+}
+
+pub fn distance(a: [f64; 2], b: [f64; 2]) -> f64 {
+    unsafe { c::threshdune_distance(a[0], a[1], b[0], b[1]) }
 }
 
 /// Declares the functions of one shape, and the shape's type for tables of them.

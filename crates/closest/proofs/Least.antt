@@ -22,7 +22,7 @@ use Rattle.plane.specs.Vector.{Vector}
 use Rattle.shape.specs.Shape.{Shape}
 use Rattle.point.specs.Point.{pointOrders}
 use Rattle.samples.specs.Samples.{pairSamples, samplesOf}
-use Rattle.distance_rule.specs.Distance.{limitOf}
+use Rattle.distance_rule.specs.Squares.{limitOf}
 use Rattle.distance_rule.proofs.Limits.{Limited, of-points, of-infinity, not-nearer, finite-distance-beyond}
 use Rattle.closest.specs.Nearest.{away, isNearest, firstNearest}
 use Rattle.closest.specs.Search.{orderIn, to, samplesIn, distanceAt, samplesFine, nearestSample}

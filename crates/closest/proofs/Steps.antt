@@ -20,7 +20,8 @@ use Rattle.evaluate.specs.Near.{pointNear}
 use Rattle.evaluate.proofs.Places.{same-span}
 use Rattle.evaluate.proofs.Near.{near-is}
 use Rattle.point.specs.Point.{pointOrders}
-use Rattle.distance_rule.specs.Distance.{squareOf, limitOf, distanceOf}
+use Rattle.distance_rule.specs.Distance.{distanceOf}
+use Rattle.distance_rule.specs.Squares.{squareOf, limitOf}
 use Rattle.closest.specs.Search.{orderIn, still, from, to, distanceAt, slopeAt, roundOf}
 use Rattle.closest.specs.Sampling.{squareAt, beyondLimit, nextBest, sampled}
 use Rattle.closest.specs.declared.Best.{Best}

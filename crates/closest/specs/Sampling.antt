@@ -7,7 +7,7 @@ use lib.Ieee.Scale.{finite}
 use Rattle.plane.specs.Vector.{Vector}
 use Rattle.shape.specs.Shape.{Shape}
 use Rattle.point.specs.Point.{pointOrders}
-use Rattle.distance_rule.specs.Distance.{squareOf, limitOf}
+use Rattle.distance_rule.specs.Squares.{squareOf, limitOf}
 use Rattle.closest.specs.Search.{orderIn, from, samplesIn, distanceAt}
 use Rattle.closest.specs.declared.Best.{Best}
 

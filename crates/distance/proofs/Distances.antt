@@ -10,7 +10,8 @@ use Rattle.meaning.specs.Number.{sizeOf}
 use Rattle.meaning.specs.Root.{inUnits, unsigned, rootOf}
 use Rattle.meaning.proofs.Tests.{and-left, and-right, no}
 use Rattle.plane.specs.Vector.{Vector, subV}
-use Rattle.distance_rule.specs.Distance.{plainFrom, rootOfSquares, lengthOf, squareOf, distanceOf}
+use Rattle.distance_rule.specs.Distance.{rootOfSquares, lengthOf, distanceOf}
+use Rattle.distance_rule.specs.Squares.{plainFrom, squareOf}
 use Rattle.distance_rule.proofs.Plain.{root-of-square}
 
 -- ---- a size

@@ -7,7 +7,8 @@ ghost use lib.Ieee.Exact.{HasValue};
 ghost use Rattle.meaning.specs.Root.{inUnits, unsigned};
 ghost use Rattle.root.specs.Pattern.{patternUnits};
 ghost use Rattle.plane.specs.View.{view};
-ghost use Rattle.distance_rule.specs.Distance.{leadingPlace, scaledDown, lengthOf, squareOf, limitOf, distanceOf};
+ghost use Rattle.distance_rule.specs.Distance.{leadingPlace, scaledDown, lengthOf, distanceOf};
+ghost use Rattle.distance_rule.specs.Squares.{squareOf, limitOf};
 use plane::P2;
 
 // ---- powers of two, in units of 2 ^ -1074

@@ -6,7 +6,8 @@ use Prim.Native.Nat.{ℕ}
 use lib.Ieee.{Float, inf, binary64, add, sub, mul, ofBits}
 use Rattle.meaning.specs.Root.{rootOf}
 use Rattle.plane.specs.Vector.{Vector}
-use Rattle.distance_rule.specs.Distance.{distanceOf, unscaledOf}
+use Rattle.distance_rule.specs.Distance.{distanceOf}
+use Rattle.distance_rule.specs.Squares.{unscaledOf}
 
 -- the point with these patterns
 abbrev at : ℕ → ℕ → Vector Float

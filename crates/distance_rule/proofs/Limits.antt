@@ -11,7 +11,8 @@ use Rattle.meaning.proofs.Order.{le-left, lt-irrefl, le-not-lt, not-lt-le, le-l
 use Rattle.meaning.proofs.Tests.{by-two}
 use Rattle.plane.specs.Vector.{Vector}
 use Rattle.root.proofs.Laws.{root-mono}
-use Rattle.distance_rule.specs.Distance.{squareOf, distanceOf, plainFrom, limitOf}
+use Rattle.distance_rule.specs.Distance.{distanceOf}
+use Rattle.distance_rule.specs.Squares.{squareOf, plainFrom, limitOf}
 use Rattle.distance_rule.proofs.Signs.{square-fits}
 use Rattle.distance_rule.proofs.Plain.{plainFrom-fits, root-of-square, finite-beyond, under-least}
 

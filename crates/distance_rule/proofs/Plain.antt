@@ -25,7 +25,8 @@ use Rattle.root.proofs.Patterns.{pattern-value}
 use Rattle.root.proofs.Doubles.{own-value}
 use Rattle.root.proofs.Range.{root-fits}
 use Rattle.root.proofs.Laws.{root-mono}
-use Rattle.distance_rule.specs.Distance.{leadingPlace, scaledDown, scaledUp, lengthOf, squareOf, distanceOf, plainFrom}
+use Rattle.distance_rule.specs.Distance.{leadingPlace, scaledDown, scaledUp, lengthOf, distanceOf}
+use Rattle.distance_rule.specs.Squares.{squareOf, plainFrom}
 use Rattle.distance_rule.proofs.Grids.{grid-most, added}
 use Rattle.distance_rule.proofs.Sums.{square}
 use Rattle.distance_rule.proofs.Parts.{dotOf, dot-fits, sub-fits, own-dot, scaled-dot, scaled-sum-most, root-unsigned}

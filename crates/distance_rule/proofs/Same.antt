@@ -23,7 +23,8 @@ use Rattle.plane.specs.Vector.{Vector, subV}
 use Rattle.root.proofs.Scaling.{pow-below}
 use Rattle.root.proofs.Doubles.{units-of, unsigned-of}
 use Rattle.root.proofs.Range.{root-fits}
-use Rattle.distance_rule.specs.Distance.{leadingPlace, scaledDown, scaledUp, lengthOf, squareOf, distanceOf, unscaledOf}
+use Rattle.distance_rule.specs.Distance.{leadingPlace, scaledDown, scaledUp, lengthOf, distanceOf}
+use Rattle.distance_rule.specs.Squares.{squareOf, unscaledOf}
 use Rattle.distance_rule.proofs.Grids.{Held, added}
 use Rattle.distance_rule.proofs.Roots.{root-apart}
 use Rattle.distance_rule.proofs.Sums.{square, down, sums-apart, plain-positive, down-positive}

@@ -9,7 +9,7 @@ use lib.Ieee.Order.{drop, kept}
 use lib.Ieee.Scale.{finite}
 use Rattle.meaning.specs.Scalar.{plain}
 use Rattle.plane.specs.Vector.{Vector, subV}
-use Rattle.distance_rule.specs.Distance.{squareOf}
+use Rattle.distance_rule.specs.Squares.{squareOf}
 use Rattle.distance_rule.proofs.Parts.{dot-fits}
 
 -- no minus sign, not even of an infinity

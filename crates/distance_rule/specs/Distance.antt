@@ -2,7 +2,7 @@
 -- this name. Sizes are counted in units of 2 ^ -1074, of which every finite double is a whole number (`inUnits`).
 use mathlib.Core.Bool.{false, _&&_, cond}
 use Prim.Native.Nat.{ℕ, _-_, _*_, _^_, max}
-use lib.Ieee.{Float, binary64, lt, size, round, ofBits}
+use lib.Ieee.{Float, binary64, size, round}
 use lib.Ieee.Scale.{finite}
 use Rattle.meaning.specs.Scalar.{plain}
 use Rattle.meaning.specs.Root.{inUnits}
@@ -34,20 +34,3 @@ unfolding lengthOf
 distanceOf a b =
     let d = subV plain a b in
     cond (finite (d .x) && finite (d .y)) (lengthOf (inUnits (d .x)) (inUnits (d .y))) (rootOfSquares d)
-
--- ---- the rule before, which scaled nothing: what a search asks first, and what the laws compare with
-
-unfoldable pub squareOf : Vector Float → Vector Float → Float
-squareOf a b = let d = subV plain a b in dotV plain d d
-
-unfoldable pub unscaledOf : Vector Float → Vector Float → Float
-unfolding squareOf
-unscaledOf a b = plain .root (squareOf a b)
-
--- From this square on, 2 ^ -967, a distance is the root of its square as long as that is finite.
-abbrev pub plainFrom : Float
-plainFrom = ofBits binary64 0x0380_0000_0000_0000
-
--- The square from which on no distance is less than the one whose square s is: s, or where s is too small to tell, the one above.
-unfoldable pub limitOf : Float → Float
-limitOf s = cond (lt s plainFrom) plainFrom s

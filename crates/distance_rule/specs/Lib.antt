@@ -1,2 +1,3 @@
--- The distance of two points: the rule, and the one that it replaces.
+-- The distance of two points: the rule, and its square with nothing scaled.
 pub mod Distance
+pub mod Squares

@@ -1,4 +1,5 @@
--- The laws of tests, of loops and searches, of lists filled by index, of the order of doubles, of sizes, zeros and whole numbers among them.
+-- The laws of tests, of loops and searches, of lists filled by index, of the order of doubles, of sizes, zeros and whole numbers among them, and of
+-- operations on values that are given as fractions.
 pub mod Tests
 pub mod For
 pub mod While

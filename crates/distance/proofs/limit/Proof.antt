@@ -1,6 +1,6 @@
 -- `distance::limit` meets its contract.
 use lib.Ieee.{nanBits}
-use Rattle.distance_rule.specs.Distance.{limitOf}
+use Rattle.distance_rule.specs.Squares.{limitOf}
 use Rattle.distance.proofs.limit.Statement.{statement}
 use Rattle.distance.proofs.limit.Tie as tie
 

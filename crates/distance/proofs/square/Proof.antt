@@ -2,7 +2,7 @@
 use mathlib.Core.Path.{_∙_}
 use Rattle.meaning.specs.Scalar.{plain}
 use Rattle.plane.specs.Vector.{dotV}
-use Rattle.distance_rule.specs.Distance.{squareOf}
+use Rattle.distance_rule.specs.Squares.{squareOf}
 use borrow.Author.Needs.{needs}
 use Rattle.distance.proofs.square.Statement.{statement}
 use Rattle.distance.proofs.square.Tie as tie

@@ -53,7 +53,13 @@ fn sample<'a>(
     let square = distance::square(c, p);
     let infinite = f64::from_bits(0x7ff0_0000_0000_0000);
     if number::both(b.limit <= square, square < infinite) {
-        return b;
+        // field by field: a copy of the whole struct takes longer
+        return Best {
+            t: b.t,
+            limit: b.limit,
+            d: b.d,
+            fine: b.fine,
+        };
     }
     let d = distance::distance(c, p);
     let fine = number::both(b.fine, number::is_finite(d));

@@ -1,4 +1,5 @@
 -- `distance::distance` meets its contract.
+use native.Mathlib.Omega.{arith}
 use mathlib.Core.Path.{_≡_, _∙_}
 use mathlib.Core.Bool.{_&&_}
 use lib.Dec.{T}
@@ -6,7 +7,6 @@ use lib.Ieee.{nanBits, ofBits}
 use lib.Ieee.Scale.{finite}
 use Rattle.meaning.specs.Root.{unsigned}
 use Rattle.plane.specs.View.{view}
-use borrow.Author.Needs.{needs}
 use Rattle.distance.proofs.Distances.{told, wild, finite-x, finite-y, measured, sized}
 use Rattle.distance.proofs.distance.Statement.{statement}
 use Rattle.distance.proofs.distance.Tie as tie
@@ -72,5 +72,5 @@ returns-3 c =
 pub distance-spec : {M : Type 1} → statement M
 distance-spec =
     tie.close
-    (tie.spec (search needs) float-from-bits-least float-from-bits-infinite (search needs) (search needs) returns (search needs) (search needs) (search needs) (search needs) (search needs) (search needs) larger-requires
-    length-requires returns-2 (search needs) returns-3)
+    (tie.spec (omega arith) float-from-bits-least float-from-bits-infinite (omega arith) (omega arith) returns (omega arith) (omega arith) (omega arith) (omega arith) (omega arith) (omega arith) larger-requires
+    length-requires returns-2 (omega arith) returns-3)

@@ -1,7 +1,6 @@
 -- `distance::leading` meets its contract.
 use native.Mathlib.Omega.{arith}
 use lib.Count.{leading-top}
-use borrow.Author.Needs.{needs}
 use Rattle.distance.proofs.Powers.{small-leading, large-leading}
 use Rattle.distance.proofs.leading.Statement.{statement}
 use Rattle.distance.proofs.leading.Tie as tie
@@ -19,4 +18,4 @@ returns-2 : tie.Need-returns-2
 returns-2 c = large-leading (c .before .args .p) (c .if1 .left)
 
 pub leading-spec : {M : Type 1} → statement M
-leading-spec = tie.close (tie.spec cast-result sub-result (search needs) returns returns-2)
+leading-spec = tie.close (tie.spec cast-result sub-result (omega arith) returns returns-2)

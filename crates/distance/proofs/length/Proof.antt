@@ -1,10 +1,10 @@
 -- `distance::length` meets its contract.
+use native.Mathlib.Omega.{arith}
 use mathlib.Core.Path.{refl, sym, subst}
 use Prim.Native.Nat.{suc, _^_, _<_}
 use lib.Dec.{T}
 use lib.Ieee.{binary64, fits}
 use Rattle.meaning.specs.Root.{inUnits}
-use borrow.Author.Needs.{needs}
 use Rattle.distance.proofs.Lengths.{unsigned-number, both-zero, pattern-range, few, under-x, under-y, length-is}
 use Rattle.distance.proofs.length.Statement.{statement}
 use Rattle.distance.proofs.length.Tie as tie
@@ -70,4 +70,4 @@ returns-2 c =
     (c .power .ensures) refl
 
 pub length-spec : {M : Type 1} → statement M
-length-spec = tie.close (tie.spec returns float-to-bits-leading leading-requires scaled-requires scaled-requires-2 (search needs) (search needs) power-requires returns-2)
+length-spec = tie.close (tie.spec returns float-to-bits-leading leading-requires scaled-requires scaled-requires-2 (omega arith) (omega arith) power-requires returns-2)

@@ -7,7 +7,6 @@ use lib.Pow.{pow-lt}
 use lib.Ieee.{binary64, ofBits}
 use lib.Ieee.Exact.{HasValue}
 use Rattle.root.proofs.NoNan.{no-nan}
-use borrow.Author.Needs.{needs}
 use Rattle.distance.proofs.Powers.{shifted, small-power, large-power}
 use Rattle.distance.proofs.power.Statement.{statement}
 use Rattle.distance.proofs.power.Tie as tie
@@ -27,4 +26,4 @@ returns-2 : tie.Need-returns-2
 returns-2 c = large-power (c .before .args .j) (c .if1 .left) (c .before .pre)
 
 pub power-spec : {M : Type 1} → statement M
-power-spec = tie.close (tie.spec (search needs) float-from-bits-result (search needs) (search needs) float-from-bits-result-2 returns returns-2)
+power-spec = tie.close (tie.spec (omega arith) float-from-bits-result (omega arith) (omega arith) float-from-bits-result-2 returns returns-2)

@@ -3,7 +3,6 @@ use native.Mathlib.Omega.{arith}
 use mathlib.Core.Path.{refl, sym, subst}
 use lib.Dec.{T}
 use lib.Ieee.{binary64, fits}
-use borrow.Author.Needs.{needs}
 use Rattle.distance.proofs.Powers.{scaled-once, scaled-twice}
 use Rattle.distance.proofs.scaled.Statement.{statement}
 use Rattle.distance.proofs.scaled.Tie as tie
@@ -24,4 +23,4 @@ returns-2 c =
     scaled-once (s .args .x) (held s) (s .pre .0) (c .power3 .result) (s .args .j) (omega (arith, s .pre .2)) (c .power3 .ensures) refl
 
 pub scaled-spec : {M : Type 1} → statement M
-scaled-spec = tie.close (tie.spec (search needs) (search needs) (search needs) (search needs) (search needs) returns returns-2)
+scaled-spec = tie.close (tie.spec (omega arith) (omega arith) (omega arith) (omega arith) (omega arith) returns returns-2)

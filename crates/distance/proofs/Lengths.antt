@@ -3,13 +3,12 @@ use mathlib.Core.Path.{_≡_, refl, sym, ap, _∙_, subst}
 use mathlib.Core.Bool.{Bool, true, false, not, true≢false}
 use mathlib.Core.Logic.{inl, inr}
 use Prim.Native.Nat.{ℕ, suc, _-_, _*_, _^_, _≤_, _<_, max}
-use native.Mathlib.Nat.{le-trans, le-of-eq, le-of-lt, lt-of-le-of-lt, lt-of-lt-of-le, eq-zero-or-pos, le-max-left, le-max-right, max-eq-left, max-eq-right}
+use native.Mathlib.Nat.{le-trans, le-of-eq, le-of-lt, lt-of-le-of-lt, eq-zero-or-pos, le-max-left, le-max-right, max-eq-left, max-eq-right}
 use native.Mathlib.Omega.{arith}
 use lib.Dec.{T}
-use lib.Pow.{pow-mono}
 use lib.Ieee.{Float, nan, inf, fin, binary64, lt, le, eq, isNan, mul, size, round, ofBits, toBits, fits}
 use lib.Ieee.Bits.{ofBits-fits}
-use lib.Ieee.Digits.{size-lt, size-le}
+use lib.Ieee.Digits.{size-le}
 use lib.Ieee.Exact.{HasValue}
 use Rattle.meaning.specs.Scalar.{zero64}
 use Rattle.meaning.specs.Root.{inUnits, unsigned, rootOf}
@@ -21,7 +20,7 @@ use Rattle.root.proofs.Range.{root-fits}
 use Rattle.distance_rule.specs.Distance.{leadingPlace, scaledDown, lengthOf}
 use Rattle.distance_rule.proofs.Roots.{units, positive}
 use Rattle.distance_rule.proofs.Parts.{dotOf, dot-fits, scaled-dot, root-unsigned}
-use Rattle.distance_rule.proofs.Same.{no-length}
+use Rattle.distance_rule.proofs.Same.{below-next, le-zero, no-length}
 use Rattle.distance_rule.proofs.Plain.{units-order}
 use Rattle.distance.proofs.Powers.{product}
 
@@ -45,13 +44,6 @@ zero-number = refl
 at-least : (x y : Float) → T (fits binary64 x) → T (fits binary64 y) → T (unsigned x) → T (unsigned y) → le x y ≡ true → inUnits x ≤ inUnits y
 at-least x y f g c d h = units-order x y (inUnits x) (inUnits y) (own-value x f c) (own-value y g d) (subst T (sym h) tt)
 
--- n has fewer than 2 ^ (j + 1) units where j is its leading place
-under : (n : ℕ) → n < 2 ^ suc (leadingPlace n)
-under n = lt-of-lt-of-le (size-lt n) (pow-mono (over (size n)))
-  where
-    over : (z : ℕ) → z ≤ suc (z - 1)
-    over z = omega arith
-
 module _ (x y : Float) (f : T (fits binary64 x)) (g : T (fits binary64 y)) (c : T (unsigned x)) (d : T (unsigned y)) where
   abbrev top : ℕ
   top = max (inUnits x) (inUnits y)
@@ -69,14 +61,11 @@ module _ (x y : Float) (f : T (fits binary64 x)) (g : T (fits binary64 y)) (c : 
 
     pub both-zero : eq m zero64 ≡ true → zero64 ≡ lengthOf (inUnits x) (inUnits y)
     both-zero h =
-        let z : max (inUnits x) (inUnits y) ≡ 0 = none (le-trans (le-of-eq (sym e)) (units-order m zero64 (inUnits m) 0 (own-value m k q) zero-value (subst T (sym (eq-le m zero64 h)) tt))) in
-        sym (ap (λ (u : ℕ). lengthOf u (inUnits y)) (none (le-trans (le-max-left (inUnits x) (inUnits y)) (le-of-eq z)))
-        ∙ ap (lengthOf 0) (none (le-trans (le-max-right (inUnits x) (inUnits y)) (le-of-eq z)))
+        let z : max (inUnits x) (inUnits y) ≡ 0 = le-zero (le-trans (le-of-eq (sym e)) (units-order m zero64 (inUnits m) 0 (own-value m k q) zero-value (subst T (sym (eq-le m zero64 h)) tt))) in
+        sym (ap (λ (u : ℕ). lengthOf u (inUnits y)) (le-zero (le-trans (le-max-left (inUnits x) (inUnits y)) (le-of-eq z)))
+        ∙ ap (lengthOf 0) (le-zero (le-trans (le-max-right (inUnits x) (inUnits y)) (le-of-eq z)))
         ∙ no-length
         ∙ sym zero-is)
-      where
-        none : {n : ℕ} → n ≤ 0 → n ≡ 0
-        none {n} h = omega arith
 
     -- ---- it is not
 
@@ -104,10 +93,10 @@ module _ (x y : Float) (f : T (fits binary64 x)) (g : T (fits binary64 y)) (c : 
             less z h = omega arith
 
         pub under-x : inUnits x < 2 ^ suc j
-        under-x = subst (λ (i : ℕ). inUnits x < 2 ^ suc i) (sym place) (lt-of-le-of-lt (le-max-left (inUnits x) (inUnits y)) (under top))
+        under-x = subst (λ (i : ℕ). inUnits x < 2 ^ suc i) (sym place) (lt-of-le-of-lt (le-max-left (inUnits x) (inUnits y)) (below-next top))
 
         pub under-y : inUnits y < 2 ^ suc j
-        under-y = subst (λ (i : ℕ). inUnits y < 2 ^ suc i) (sym place) (lt-of-le-of-lt (le-max-right (inUnits x) (inUnits y)) (under top))
+        under-y = subst (λ (i : ℕ). inUnits y < 2 ^ suc i) (sym place) (lt-of-le-of-lt (le-max-right (inUnits x) (inUnits y)) (below-next top))
 
         pub length-is : (r p : Float) {s t a b : Float} → a ≡ scaledDown j (inUnits x) → b ≡ scaledDown j (inUnits y) → s ≡ dotOf a b → r ≡ rootOf s → HasValue p false (2 ^ j) (2 ^ 1074)
             → t ≡ mul binary64 r p → t ≡ lengthOf (inUnits x) (inUnits y)

@@ -11,7 +11,7 @@ use lib.Dec.{T, lit<, lit≤}
 use lib.Pow.{pow-pos, pow-mono}
 use lib.Ieee.{Float, nan, inf, fin, binary64, round, lt, le, size, ofBits, fits}
 use lib.Ieee.Bits.{ofBits-fits}
-use lib.Ieee.Digits.{size-lt, size-le}
+use lib.Ieee.Digits.{size-le}
 use lib.Ieee.Exact.{HasValue}
 use lib.Ieee.Order.{le-of-values, round-mono}
 use lib.Ieee.Positive.{positive, above, positive-of-value, above-of-le, values-of-le}
@@ -31,7 +31,7 @@ use Rattle.distance_rule.proofs.Grids.{grid-most, added}
 use Rattle.distance_rule.proofs.Sums.{square}
 use Rattle.distance_rule.proofs.Parts.{dotOf, dot-fits, sub-fits, own-dot, scaled-dot, scaled-sum-most, root-unsigned}
 use Rattle.distance_rule.proofs.Signs.{square-plus, square-fits, finite-under}
-use Rattle.distance_rule.proofs.Same.{larger, parts-finite, finite-distance, same-as-before}
+use Rattle.distance_rule.proofs.Same.{below-next, larger, parts-finite, finite-distance, same-as-before}
 
 -- ---- the order of doubles is that of their units
 
@@ -141,7 +141,7 @@ module _ (a b : Vector Float) where
         let n = max u v in
         let j = leadingPlace n in
         let few : size n ≤ 590 = size-le n 590 (root-lt n (2 ^ 590) (lt-of-lt-of-le l (lit≤ tt))) in
-        let top : n ≤ 2 ^ suc j = le-of-lt (lt-of-lt-of-le (size-lt n) (pow-mono (over (size n)))) in
+        let top : n ≤ 2 ^ suc j = le-of-lt (below-next n) in
         let hu : u ≤ 2 ^ suc j = le-trans (le-max-left u v) top in
         let hv : v ≤ 2 ^ suc j = le-trans (le-max-right u v) top in
         let s = dotOf (scaledDown j u) (scaledDown j v) in
@@ -160,9 +160,6 @@ module _ (a b : Vector Float) where
         (round-mono binary64 (inUnits (rootOf s) * 2 ^ j) (2 ^ 1074 * 2 ^ 1074) (inUnits (rootOf eight) * 2 ^ 589) (2 ^ 1074 * 2 ^ 1074) (pow-pos 2148) (pow-pos 2148)
         (mul-le-mul-right (2 ^ 1074 * 2 ^ 1074) (mul-le-mul r (pow-mono {i = j} {j = 589} (places (size n) few))))))
       where
-        over : (z : ℕ) → z ≤ suc (z - 1)
-        over z = omega arith
-
         places : (z : ℕ) → z ≤ 590 → z - 1 ≤ 589
         places z h = omega arith
 

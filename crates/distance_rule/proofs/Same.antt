@@ -37,14 +37,16 @@ pub record Leads (n j : ℕ) : Type 0 where
   pub least : 2 ^ j ≤ n
   pub most : n < 2 ^ suc j
 
+pub below-next : (n : ℕ) → n < 2 ^ suc (leadingPlace n)
+below-next n = lt-of-lt-of-le (size-lt n) (pow-mono (reached (size n)))
+  where
+    reached : (z : ℕ) → z ≤ suc (z - 1)
+    reached z = omega arith
+
 pub leads : (n : ℕ) → 0 < n → Leads n (leadingPlace n)
 leads n p =
-    let z = size n in
-    let one : 0 < z = pow-below 0 z n p (size-lt n) in
-    record { least = size-reaches n (z - 1) (omega arith); most = subst (λ (k : ℕ). n < 2 ^ k) (back z one) (size-lt n) }
-  where
-    back : (z : ℕ) → 0 < z → z ≡ suc (z - 1)
-    back z h = omega arith
+    let one : 0 < size n = pow-below 0 (size n) n p (size-lt n) in
+    record { least = size-reaches n (leadingPlace n) (omega arith); most = below-next n }
 
 -- ---- from equal digits of the sums to the same length
 
@@ -125,7 +127,7 @@ root-finite (inf true) p h = absurd p
 root-finite (inf false) p h = h
 root-finite (fin s m e) p h = tt
 
-le-zero : {n : ℕ} → n ≤ 0 → n ≡ 0
+pub le-zero : {n : ℕ} → n ≤ 0 → n ≡ 0
 le-zero {n} h = omega arith
 
 -- what 0 and 0 give, by either rule

@@ -46,7 +46,7 @@ module _ {A : Type 0} (o : Ops A) (e : Field o) where
 
   -- 2, and then 3, are 6
   factors : (a b g h : A) → (a ⊗ whole o 2 ⊘ g ⊖ b ⊗ whole o 2 ⊘ h) ⊗ whole o 3 ≡ (a ⊘ g ⊖ b ⊘ h) ⊗ whole o 6
-  factors a b g h = rw (factor-out a b g h (whole o 2), e.times-assoc (a ⊘ g ⊖ b ⊘ h) (whole o 2) (whole o 3), e.six)
+  factors a b g h = rw (factor-out a b g h (whole o 2), e.times_assoc (a ⊘ g ⊖ b ⊘ h) (whole o 2) (whole o 3), e.six)
 
   within : (g h c : A) {x y a b : A} → x ≡ a → y ≡ b → (x ⊘ g ⊖ y ⊘ h) ⊗ c ≡ (a ⊘ g ⊖ b ⊘ h) ⊗ c
   within g h c p q = rw (p, q)
@@ -63,7 +63,7 @@ module _ {A : Type 0} (o : Ops A) (e : Field o) where
     -- the factor of degree 1 is 1
     linear : (k : ℕ) → derived o u i t 1 k 1 ≡ bare o u i t 1 k 1
     unfolding derived bare of_int of_bits round
-    linear k = e.times-one _
+    linear k = e.times_one _
 
     quadratic : (k : ℕ) → derived o u i t 2 k 2 ≡ bare o u i t 2 k 2 ⊗ whole o 2
     unfolding derived bare

@@ -45,7 +45,7 @@ module _ {A : Type 0} (o : Ops A) (e : Field o) where
   side_zero a b p = rw (p, zero_over o e b, times_zero o e a)
 
   sides_zero : (a b c d : A) {x y : A} → x ≡ nought → y ≡ nought → a ⊗ (x ⊘ b) ⊕ c ⊗ (y ⊘ d) ≡ nought
-  sides_zero a b c d p q = rw (side_zero a b p, side_zero c d q, e.plus-zero nought)
+  sides_zero a b c d p q = rw (side_zero a b p, side_zero c d q, e.plus_zero nought)
 
   -- A2.3's cell in the first row of a column, between, and on the diagonal
   first_cell : (a b t u w : A) {x y z : A} → x ≡ nought → z ≡ y
@@ -61,7 +61,7 @@ module _ {A : Type 0} (o : Ops A) (e : Field o) where
   last_cell : (c d t u w : A) {x y q : A} → q ≡ x → y ≡ nought
       → (t ⊖ w) ⊗ (q ⊘ (u ⊖ t ⊕ (t ⊖ w)))
       ≡ (t ⊖ w) ⊗ (x ⊘ (u ⊖ w)) ⊕ c ⊗ (y ⊘ d)
-  last_cell c d t u w p q = rw (side_zero c d q, p, through o e u t w) (sym (e.plus-zero _))
+  last_cell c d t u w p q = rw (side_zero c d q, p, through o e u t w) (sym (e.plus_zero _))
 
   -- ---- sums: each quotient stands in two neighbours, and its two factors sum to what it was divided by
 
@@ -75,7 +75,7 @@ module _ {A : Type 0} (o : Ops A) (e : Field o) where
         → a ⊗ (p ⊘ b) ⊕ (u ⊖ t) ⊗ (x ⊘ (u ⊖ w))
         ⊕ ((t ⊖ w) ⊗ (x ⊘ (u ⊖ w)) ⊕ c ⊗ (q ⊘ d))
         ≡ x
-    sum_two u w h = rw (side_zero a b before, side_zero c d after, zero_plus o e, e.plus-zero) (both t u w h)
+    sum_two u w h = rw (side_zero a b before, side_zero c d after, zero_plus o e, e.plus_zero) (both t u w h)
 
     sum_three : (u w v r : A) {x y : A} → u ⊖ w ≢ nought → v ⊖ r ≢ nought
         → a ⊗ (p ⊘ b) ⊕ (u ⊖ t) ⊗ (x ⊘ (u ⊖ w))
@@ -83,7 +83,7 @@ module _ {A : Type 0} (o : Ops A) (e : Field o) where
         ⊕ ((t ⊖ r) ⊗ (y ⊘ (v ⊖ r)) ⊕ c ⊗ (q ⊘ d))
         ≡ x ⊕ y
     sum_three u w v r h g =
-        rw (side_zero a b before, side_zero c d after, zero_plus o e, e.plus-zero, ← e.plus_assoc ((u ⊖ t) ⊗ _), both t u w h, e.plus_assoc, both t v r g)
+        rw (side_zero a b before, side_zero c d after, zero_plus o e, e.plus_zero, ← e.plus_assoc ((u ⊖ t) ⊗ _), both t u w h, e.plus_assoc, both t v r g)
 
     sum_four : (u w v r z s : A) {x y k : A} → u ⊖ w ≢ nought → v ⊖ r ≢ nought → z ⊖ s ≢ nought
         → a ⊗ (p ⊘ b) ⊕ (u ⊖ t) ⊗ (x ⊘ (u ⊖ w))
@@ -92,7 +92,7 @@ module _ {A : Type 0} (o : Ops A) (e : Field o) where
         ⊕ ((t ⊖ s) ⊗ (k ⊘ (z ⊖ s)) ⊕ c ⊗ (q ⊘ d))
         ≡ x ⊕ y ⊕ k
     sum_four u w v r z s {x} {y} h g f =
-        rw (side_zero a b before, side_zero c d after, zero_plus o e, e.plus-zero, ← e.plus_assoc ((u ⊖ t) ⊗ _), both t u w h)
+        rw (side_zero a b before, side_zero c d after, zero_plus o e, e.plus_zero, ← e.plus_assoc ((u ⊖ t) ⊗ _), both t u w h)
         (rw (← e.plus_assoc (x ⊕ _), e.plus_assoc x ((v ⊖ t) ⊗ _), both t v r g, e.plus_assoc (x ⊕ y), both t z s f))
 
   -- ---- over eight knots

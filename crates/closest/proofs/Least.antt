@@ -206,8 +206,8 @@ module _ (c : Shape Float) (p : Vector Float) where
 
       now_taken : Stays ts b₁ r ⊎ Taken ts b₁ r → Taken (t ∷ ts) b r
       now_taken (inl s) =
-          let e : r.t ≡ t = s.same-t ∙ at-t in
-          let q : r.d ≡ d = s.same-d ∙ at-d in
+          let e : r.t ≡ t = s.same_t ∙ at-t in
+          let q : r.d ≡ d = s.same_d ∙ at-d in
           record { own = q ∙ ap (distance_at c p) (sym e); less = rw q near; one = itself e (rw at-d at s.none) }
       now_taken (inr k) =
           let q : lt r.d d ≡ true = rw at-d at k.less in
@@ -219,7 +219,7 @@ module _ (c : Shape Float) (p : Vector Float) where
       farther = not_lt_le d b.d (finite_no_nan d good) number far
 
       as_before : Stays ts b₁ r ⊎ Taken ts b₁ r → Stays (t ∷ ts) b r ⊎ Taken (t ∷ ts) b r
-      as_before (inl s) = inl (record { same_t = s.same-t ∙ at-t; same_d = s.same-d ∙ at-d; none = none_more b.d t ts farther (rw at-d at s.none) })
+      as_before (inl s) = inl (record { same_t = s.same_t ∙ at-t; same_d = s.same_d ∙ at-d; none = none_more b.d t ts farther (rw at-d at s.none) })
       as_before (inr k) =
           let q : lt r.d b.d ≡ true = rw at-d at k.less in
           inr (record { own = k.own; less = q; one = first_more t ts (rw k.own at (lt_le_trans r.d b.d d q farther)) k.one })

@@ -143,7 +143,7 @@ module _ (st : ℕ → Float) (P : (i : ℕ) → T (plus (st i))) where
           let f : k < n = omega arith in
           by_two (lt (u k) (u (suc k))) inl
           (λ b. inr (equal_same _ _ (parameter_fits k f) (parameter_fits (suc k) l) (parameter_plus k f) (parameter_plus (suc k) l)
-          (Order.le-le-eq _ _ (parameters_climb k l) (Order.not-lt-le _ _ (finite_no_nan _ (fine k f)) (finite_no_nan _ (fine (suc k) l)) b))))
+          (Order.le_le_eq _ _ (parameters_climb k l) (Order.not_lt_le _ _ (finite_no_nan _ (fine k f)) (finite_no_nan _ (fine (suc k) l)) b))))
 
       pub rise_or_repeat : Rising u n ⊎ Repeat u n
       rise_or_repeat =

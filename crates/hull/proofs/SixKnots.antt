@@ -70,8 +70,8 @@ module _ (ks : List Float) (n : ℕ) (a : Accepted (take (n + 4) ks) n) where
       → lt (knot ks i) (knot ks (i + 1)) ≡ true
   rises j i g h l p q =
       by_two (le (knot ks (i + 1)) (knot ks i))
-      (λ e. no (sym (no_repeat j g h) ∙ order.eq_trans _ _ _ p (order.eq_trans _ _ _ (order.le-le-eq _ _ (up i l) e) q)))
-      (λ e. order.not-le-lt _ _ (no_nan ks n up (i + 1) (omega arith)) (no_nan ks n up i (omega arith)) e)
+      (λ e. no (sym (no_repeat j g h) ∙ order.eq_trans _ _ _ p (order.eq_trans _ _ _ (order.le_le_eq _ _ (up i l) e) q)))
+      (λ e. order.not_le_lt _ _ (no_nan ks n up (i + 1) (omega arith)) (no_nan ks n up i (omega arith)) e)
 
   same : (i : ℕ) → i < n + 4 → eq (knot ks i) (knot ks i) ≡ true
   same i h = order.eq_refl _ (no_nan ks n up i h)
@@ -86,22 +86,22 @@ module _ (ks : List Float) (n : ℕ) (a : Accepted (take (n + 4) ks) n) where
   first_rises : lt (knot ks 3) (knot ks 4) ≡ true
   first_rises =
       rises 1 3 (omega arith) (omega (arith, a.four)) (omega (arith, a.four))
-      (order.eq_trans _ _ _ (starts 1 (omega arith)) (order.eq-sym _ _ (starts 3 (omega arith)))) (same 4 (omega (arith, a.four)))
+      (order.eq_trans _ _ _ (starts 1 (omega arith)) (order.eq_sym _ _ (starts 3 (omega arith)))) (same 4 (omega (arith, a.four)))
 
   last_rises : lt (knot ks (n - 1)) (knot ks (n - 1 + 1)) ≡ true
   last_rises =
       let f = a.four in
       rises (n - 1) (n - 1) (omega arith) (omega arith) (omega arith) (same (n - 1) (omega arith))
-      (order.eq_trans _ _ _ (ends (n - 1 + 1) (omega arith) (omega arith)) (order.eq-sym _ _ (ends (n - 1 + 3) (omega arith) (omega arith))))
+      (order.eq_trans _ _ _ (ends (n - 1 + 1) (omega arith) (omega arith)) (order.eq_sym _ _ (ends (n - 1 + 3) (omega arith) (omega arith))))
 
   -- ---- the span of t
 
   module _ (t : Float) (number : is_nan t ≡ false) (from : lt t (knot ks 0) ≡ false) (to : lt (knot ks (n + 3)) t ≡ false) where
     from_first : le (knot ks 0) t ≡ true
-    from_first = order.not-lt-le _ _ number (no_nan ks n up 0 (omega arith)) from
+    from_first = order.not_lt_le _ _ number (no_nan ks n up 0 (omega arith)) from
 
     to_last : le t (knot ks (n + 3)) ≡ true
-    to_last = order.not-lt-le _ _ (no_nan ks n up (n + 3) (omega arith)) number to
+    to_last = order.not_lt_le _ _ (no_nan ks n up (n + 3) (omega arith)) number to
 
     at_end : le (knot ks n) t ≡ true → Holds ks n t (n - 1)
     at_end h =
@@ -111,7 +111,7 @@ module _ (ks : List Float) (n : ℕ) (a : Accepted (take (n + 4) ks) n) where
           low = omega arith;
           high = omega arith;
           from = order.le_trans _ _ _ (ordered ks n up (n - 1) n (omega arith) (omega arith)) h;
-          to = rw e (order.le_trans _ _ _ to_last (order.eq-le _ _ (order.eq-sym _ _ (ends n (le_refl n) (omega arith)))));
+          to = rw e (order.le_trans _ _ _ to_last (order.eq_le _ _ (order.eq_sym _ _ (ends n (le_refl n) (omega arith)))));
           rise = last_rises;
         }
 
@@ -121,14 +121,14 @@ module _ (ks : List Float) (n : ℕ) (a : Accepted (take (n + 4) ks) n) where
         record {
           low = omega arith;
           high = omega arith;
-          from = order.le_trans _ _ _ (order.eq-le _ _ (starts 3 (omega arith))) from_first;
+          from = order.le_trans _ _ _ (order.eq_le _ _ (starts 3 (omega arith))) from_first;
           to = order.le_trans _ _ _ h (up 3 (omega arith));
           rise = first_rises;
         }
 
     between : (i : ℕ) → Inside ks n t i → Holds ks n t i
     between i h =
-        record { low = h.low; high = h.high; from = h.at; to = order.lt-le _ _ h.under; rise = order.le_lt_trans _ _ _ h.at h.under }
+        record { low = h.low; high = h.high; from = h.at; to = order.lt_le _ _ h.under; rise = order.le_lt_trans _ _ _ h.at h.under }
 
     pub span-holds : Holds ks n t (span_of ks n t)
     unfolding span_of
@@ -136,8 +136,8 @@ module _ (ks : List Float) (n : ℕ) (a : Accepted (take (n + 4) ks) n) where
         by_two (le (knot ks n) t) (λ p. rw p (at_end p))
         (λ p. by_two (le t (knot ks 3)) (λ q. rw (p, q) (at_start q))
         (λ q. between _ (span_inside ks n t up a.four
-        (order.not-le-lt _ _ number (no_nan ks n up 3 (omega arith)) q)
-        (order.not-le-lt _ _ (no_nan ks n up n (omega arith)) number p))))
+        (order.not_le_lt _ _ number (no_nan ks n up 3 (omega arith)) q)
+        (order.not_le_lt _ _ (no_nan ks n up n (omega arith)) number p))))
 
 -- what lies between two values has no larger size than both
 between_size : (ap an tp tn bp bn s : ℕ) → (tp ≡ 0) ⊎ (tn ≡ 0) → ap + tn ≤ tp + an → tp + bn ≤ bp + tn → ap + an ≤ s → bp + bn ≤ s → tp + tn ≤ s
@@ -146,7 +146,7 @@ between_size ap an tp tn bp bn s (inr z) h k l m = omega arith
 
 module _ (c : Shape Float) (t : Float) (a : Accepted (take (c.n + 4) c.knots) c.n) (d : Within c t) where
   pub holds : Holds c.knots c.n t (span_at c t)
-  holds = span-holds c.knots c.n a t (order.finite-no-nan t d.number) d.from d.to
+  holds = span-holds c.knots c.n a t (order.finite_no_nan t d.number) d.from d.to
 
   knot-at : (i : ℕ) → i < c.n + 4 → Knot (knot c.knots i)
   knot-at i h =

@@ -83,7 +83,7 @@ module _ (c : Shape Float) (t : Float) (a : Accepted (take (c.n + 4) c.knots) c.
     x_is = front.x-first
 
     y_is : at1 plain orders 1 ≡ point.y
-    y_is = front.y-next
+    y_is = front.y_next
 
     pub ten : length orders ≡ 10
     ten = front.long

@@ -20,7 +20,7 @@ use Rattle.knots.proofs.Accepted.{accepts}
 
 -- what is below another does not equal it
 below_differs : (x y : Float) → lt x y ≡ true → eq x y ≡ false
-below_differs x y h = by_two (eq x y) (λ e. no (sym (Order.lt_not_le x y h) ∙ Order.eq-le y x (Order.eq-sym x y e))) (λ e. e)
+below_differs x y h = by_two (eq x y) (λ e. no (sym (Order.lt_not_le x y h) ∙ Order.eq_le y x (Order.eq_sym x y e))) (λ e. e)
 
 module _ (ks : List Float) (n : ℕ) (four : 4 ≤ n) (room : n ≤ 66) (long : length ks ≡ n + 4)
     (fine : (i : ℕ) → i < n + 4 → finite (knot ks i) ≡ true) (up : NotFalling ks n)
@@ -41,12 +41,12 @@ module _ (ks : List Float) (n : ℕ) (four : 4 ≤ n) (room : n ≤ 66) (long : 
   apart j a b =
       let i = max j 3 in
       Order.le_lt_trans _ _ _ (ordered ks n up j i (omega arith) (omega arith))
-      (Order.lt-le-trans _ _ _ (rise i (omega arith) (omega arith)) (ordered ks n up (i + 1) (j + 3) (omega arith) (omega arith)))
+      (Order.lt_le_trans _ _ _ (rise i (omega arith) (omega arith)) (ordered ks n up (i + 1) (j + 3) (omega arith) (omega arith)))
 
   ends_apart : lt (knot ks 0) (knot ks (n + 3)) ≡ true
   ends_apart =
       Order.le_lt_trans _ _ _ (ordered ks n up 0 1 (omega arith) (omega arith))
-      (Order.lt-le-trans _ _ _ (apart 1 (omega arith) (omega arith)) (ordered ks n up 4 (n + 3) (omega arith) (omega arith)))
+      (Order.lt_le_trans _ _ _ (apart 1 (omega arith) (omega arith)) (ordered ks n up 4 (n + 3) (omega arith) (omega arith)))
 
   pub rising_passes : Passed (knot_rules Control n true ks)
   unfolding ne

@@ -211,7 +211,7 @@ record Alike (x y : Float) (P Q : ℕ) : Type 0 where
 
 le_is : {x y : Float} {P Q : ℕ} → Alike x y P Q → le x y ≡ leb P Q
 unfolding le
-le_is {x} {y} {P} {Q} a = rw (a.lt-is, a.eq_is) (same_test (ltb P Q || eqb P Q) (leb P Q) to from)
+le_is {x} {y} {P} {Q} a = rw (a.lt_is, a.eq_is) (same_test (ltb P Q || eqb P Q) (leb P Q) to from)
   where
     to : ltb P Q || eqb P Q ≡ true → leb P Q ≡ true
     to h = elim (either (ltb P Q) (eqb P Q) h) [ inl l ↦ le-leb P Q (omega (arith, ltb-true P Q l)) | inr e ↦ le-leb P Q (omega (arith, eqb-true P Q e)) ]
@@ -225,10 +225,10 @@ le_is {x} {y} {P} {Q} a = rw (a.lt-is, a.eq_is) (same_test (ltb P Q || eqb P Q) 
 
 module _ {x y : Float} {P Q : ℕ} (a : Alike x y P Q) where
   of_lt : lt x y ≡ true → P < Q
-  of_lt h = ltb-true P Q (sym a.lt-is ∙ h)
+  of_lt h = ltb-true P Q (sym a.lt_is ∙ h)
 
   of_not_lt : lt x y ≡ false → Q ≤ P
-  of_not_lt h = ltb-false P Q (sym a.lt-is ∙ h)
+  of_not_lt h = ltb-false P Q (sym a.lt_is ∙ h)
 
   of_le : le x y ≡ true → P ≤ Q
   of_le h = leb-true P Q (sym (le_is a) ∙ h)
@@ -240,10 +240,10 @@ module _ {x y : Float} {P Q : ℕ} (a : Alike x y P Q) where
   of_eq h = eqb-true P Q (sym a.eq_is ∙ h)
 
   to_lt : P < Q → lt x y ≡ true
-  to_lt h = a.lt-is ∙ lt-ltb P Q h
+  to_lt h = a.lt_is ∙ lt-ltb P Q h
 
   to_not_lt : Q ≤ P → lt x y ≡ false
-  to_not_lt h = a.lt-is ∙ le-ltb P Q h
+  to_not_lt h = a.lt_is ∙ le-ltb P Q h
 
   to_le : P ≤ Q → le x y ≡ true
   to_le h = le_is a ∙ le-leb P Q h

@@ -114,7 +114,7 @@ module _ (who : Offered) (s : Sound who) (t : Float) (d : Doubles who.shape t) w
       let p = number_of z in
       let k = placed p b.domain in
       let tame : some_wild (point_orders c t 0) 2 ≡ false =
-      point_passes c t (s.knots p) k 0 (omega arith) (coordinates_x p) (coordinates_y p) b.long b.modest-x b.modest-y in
+      point_passes c t (s.knots p) k 0 (omega arith) (coordinates_x p) (coordinates_y p) b.long b.modest_x b.modest_y in
       ap (λ (o : Outcome). o.refusal) a
       ∙ second_decides who.rules (rows c t order out) s.counted p
       ∙ rw alone (rw (k.number, le-ltb (length out) 2 room, tame))

@@ -56,7 +56,7 @@ module _ (s w u : List ℕ) (most per at : ℕ) (x : Lines) (h : Fits most per x
 
     from_word : From s at (w ++ (digits_text 10 d n ++ (text "\n" ++ (numbers ++ u))))
     unfolding section_text numbers_text first_ones
-    from_word = rw (append_assoc, append_assoc, sub-zero, z.text-is) at f
+    from_word = rw (append_assoc, append_assoc, sub-zero, z.text_is) at f
 
     from-count : From s c (digits_text 10 d n ++ (text "\n" ++ (numbers ++ u)))
     from-count = past w (digits_text 10 d n ++ (text "\n" ++ (numbers ++ u))) from_word

@@ -165,9 +165,9 @@ module _ (m c : ℕ) (D : List (List Float)) (sh : Shaped m (m + 2) D) (C : c < 
         let n : z.a ≡ p → ⊥ = λ e. no (sym (sym here ∙ ap (λ (k : ℕ). eq (at2 plain D k c) zero64) e ∙ Z)) in
         record {
           a = to c p z.a;
-          a_ge = to_ge z.a z.a-ge z.a_lt n;
-          a_lt = to_lt z.a z.a-ge z.a_lt n;
-          all = λ j u v. rw (number-done z.a z.a-ge z.a_lt n j u v, here) (z.all j (omega arith) v);
+          a_ge = to_ge z.a z.a_ge z.a_lt n;
+          a_lt = to_lt z.a z.a_ge z.a_lt n;
+          all = λ j u v. rw (number-done z.a z.a_ge z.a_lt n j u v, here) (z.all j (omega arith) v);
         }
 
     -- row b has the pivot row's numbers
@@ -193,22 +193,22 @@ module _ (m c : ℕ) (D : List (List Float)) (sh : Shaped m (m + 2) D) (C : c < 
 
     twins_next : Twins m c D → Twins m (c + 1) (column_done plain m c D) ⊎ Spent m (c + 1) (column_done plain m c D)
     twins_next t = ⊎_elim
-        (λ (e : t.a ≡ p). inr (spends t.b t.b-ge t.b_lt (λ q. t.apart (e ∙ sym q)) (λ j u v. ap (λ (k : ℕ). at2 plain D k j) (sym e) ∙ t.equal j u v)
+        (λ (e : t.a ≡ p). inr (spends t.b t.b_ge t.b_lt (λ q. t.apart (e ∙ sym q)) (λ j u v. ap (λ (k : ℕ). at2 plain D k j) (sym e) ∙ t.equal j u v)
         (λ j u v. subst (λ (z : Float). T (fits binary64 z)) (t.equal j u v) (t.double j u v))))
         (λ (n : t.a ≡ p → ⊥). ⊎_elim
-        (λ (e : t.b ≡ p). inr (spends t.a t.a-ge t.a_lt n (λ j u v. ap (λ (k : ℕ). at2 plain D k j) (sym e) ∙ sym (t.equal j u v)) t.double))
+        (λ (e : t.b ≡ p). inr (spends t.a t.a_ge t.a_lt n (λ j u v. ap (λ (k : ℕ). at2 plain D k j) (sym e) ∙ sym (t.equal j u v)) t.double))
         (λ (q : t.b ≡ p → ⊥). inl (record {
           a = to c p t.a;
           b = to c p t.b;
-          a_ge = to_ge t.a t.a-ge t.a_lt n;
-          a_lt = to_lt t.a t.a-ge t.a_lt n;
-          b_ge = to_ge t.b t.b-ge t.b_lt q;
-          b_lt = to_lt t.b t.b-ge t.b_lt q;
+          a_ge = to_ge t.a t.a_ge t.a_lt n;
+          a_lt = to_lt t.a t.a_ge t.a_lt n;
+          b_ge = to_ge t.b t.b_ge t.b_lt q;
+          b_lt = to_lt t.b t.b_ge t.b_lt q;
           apart = λ e. t.apart (to-apart c p t.a t.b n q e);
-          equal = λ j u v. number-done t.a t.a-ge t.a_lt n j u v
+          equal = λ j u v. number-done t.a t.a_ge t.a_lt n j u v
               ∙ (λ i. after (t.equal c (le_refl c) C i) (t.equal j (omega arith) v i) (at2 plain D p c) (at2 plain D p j))
-              ∙ sym (number-done t.b t.b-ge t.b_lt q j u v);
-          double = λ j u v. rw (number-done t.a t.a-ge t.a_lt n j u v)
+              ∙ sym (number-done t.b t.b_ge t.b_lt q j u v);
+          double = λ j u v. rw (number-done t.a t.a_ge t.a_lt n j u v)
               (cond-fits binary64 (eq (at2 plain D t.a c) zero64) (at2 plain D t.a j) _ (t.double j (omega arith) v) (sub-fits binary64 (at2 plain D t.a j) _));
         }))
         (same t.b p))
@@ -231,8 +231,8 @@ module _ (m : ℕ) (M : List (List Float)) (sh : Shaped m (m + 2) M) (ok : solve
 
   none : Twins m 0 M → ⊥
   none t = ⊎_elim
-      (λ (u : Twins m m (eliminated plain m m M)). out u.a u.a-ge u.a_lt)
-      (λ (z : Spent m m (eliminated plain m m M)). out z.a z.a-ge z.a_lt)
+      (λ (u : Twins m m (eliminated plain m m M)). out u.a u.a_ge u.a_lt)
+      (λ (z : Spent m m (eliminated plain m m M)). out z.a z.a_ge z.a_lt)
       (reaches m (le_refl m) t)
     where
       out : (a : ℕ) → m ≤ a → a < m → ⊥

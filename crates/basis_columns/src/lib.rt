@@ -1,5 +1,7 @@
 // The columns that A2.3's derivative loop reads, from signed numbers. Both copies call these. They take bytes, far more than the table has
 // columns, so that no difference or sum is too large for its type.
+#![tactic(auto)]
+
 ghost use Rattle.std.specs.Prelude.{◌≡◌, min};
 ghost use Rattle.basis_columns.specs.Columns.{below, column_at, first_j, end_j};
 

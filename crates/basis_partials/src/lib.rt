@@ -1,5 +1,7 @@
 // The cubic B-spline basis on a span, with its derivatives: algorithm A2.3 of The NURBS Book on values with partials. The knots are the six that a
 // span reads: a whole list of them would be slow to copy.
+#![tactic(auto)]
+
 ghost use Rattle.std.specs.Prelude.{◌≡◌, ◌≤◌};
 ghost use Rattle.partials.specs.Dual.{dual};
 ghost use Rattle.basis.specs.Triangle.{column_of, triangle_of};
@@ -53,7 +55,7 @@ fn triangle_of(w: [Dv; 6], t: Dv) -> [[Dv; 4]; 4]
 }
 
 // A2.3's two rows of coefficients, of the order before and of the order at hand, and the sum d.
-#[derive(Drop)]
+#[derive(Clone, Copy)]
 struct Coefs {
     old: [Dv; 4],
     new: [Dv; 4],

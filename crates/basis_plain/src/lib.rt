@@ -1,4 +1,6 @@
 // The cubic B-spline basis on a span, with its derivatives: algorithm A2.3 of The NURBS Book on doubles.
+#![tactic(auto)]
+
 ghost use Rattle.std.specs.Prelude.{◌≡◌, ◌≤◌};
 ghost use Rattle.meaning.specs.Scalar.{plain};
 ghost use Rattle.meaning.specs.Table.{put2};
@@ -8,7 +10,7 @@ ghost use Rattle.basis.specs.Basis.{values_of, function_of, functions_of, scaled
 ghost use Rattle.basis_plain.specs.View.{view_cell, view};
 
 // What a turn of the table's inner loop makes: a knot difference, a basis value, and what the next turn adds to its own.
-#[derive(Drop)]
+#[derive(Clone, Copy)]
 struct Cell {
     gap: f64,
     value: f64,
@@ -76,7 +78,7 @@ fn triangle_of(u: &[f64; 70], i: usize, t: f64) -> [[f64; 4]; 4]
 }
 
 // A2.3's two rows of coefficients, of the order before and of the order at hand, and the sum d.
-#[derive(Drop)]
+#[derive(Clone, Copy)]
 struct Coefs {
     old: [f64; 4],
     new: [f64; 4],

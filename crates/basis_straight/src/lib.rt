@@ -1,5 +1,7 @@
 // The cubic B-spline basis on a span on values with partials, by its statements written out: the values alone, and the second derivatives alone, without
 // the table of A2.3, whose rows would be slow to copy. Every operation is one of A2.3's, in its order, so that each answer is a row of the whole basis.
+#![tactic(auto)]
+
 ghost use Rattle.std.specs.Prelude.{◌≡◌, [], get_or};
 ghost use Rattle.partials.specs.Dual.{dual};
 ghost use Rattle.basis.specs.Triangle.{cell_of, triangle_of};
@@ -10,7 +12,7 @@ ghost use Rattle.basis_straight.specs.View.{view_cell, view_entries};
 use partials::Dv;
 
 // What a turn of the table's inner loop makes: a knot difference, a basis value, and what the next turn adds to its own.
-#[derive(Drop)]
+#[derive(Clone, Copy)]
 pub struct Cell {
     pub gap: Dv,
     pub value: Dv,
@@ -61,7 +63,7 @@ pub fn values(w: [Dv; 6], t: Dv) -> [Dv; 4]
 }
 
 // What the second derivatives read of the table: the knot differences in its rows 2 and 3, and the two values in its column 1.
-#[derive(Drop)]
+#[derive(Clone, Copy)]
 struct Entries {
     g20: Dv,
     g21: Dv,

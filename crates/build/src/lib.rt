@@ -1,4 +1,6 @@
 // The one build of every form: by value, or in slices.
+#![tactic(auto)]
+
 ghost use Rattle.std.specs.Prelude.{◌≡◌, ◌||◌, ◌*◌, ◌≤◌, length, take};
 ghost use Rattle.fit.specs.Fit.{making};
 ghost use Rattle.build.specs.Build.{controls_in, lacks_work, built_by, built, in_turn, sliced, built_into};

@@ -1,4 +1,6 @@
 // How curves and numbers cross between C and the library.
+#![tactic(auto)]
+
 ghost use Rattle.std.specs.Prelude.{◌≡◌, min, length};
 ghost use Rattle.buffer.specs.Pasted.{pasted};
 ghost use Rattle.outcome.specs.Told.{told};

@@ -1,4 +1,6 @@
 // How numbers and values with partials cross between C and the library: read from slices that may be too short, and answered in slices that may have no room.
+#![tactic(auto)]
+
 ghost use Rattle.std.specs.Prelude.{◌≡◌, ◌∷◌, ◌+◌, ◌≤◌, length, get_or};
 ghost use Rattle.std.proofs.Math.Seq.{paste};
 ghost use Rattle.plane.specs.View.{view};

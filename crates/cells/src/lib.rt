@@ -1,4 +1,6 @@
 // Values with partials in two lent slices: cell k is c + 1 doubles, the value and room for c partials, and a byte, how many of them there are.
+#![tactic(auto)]
+
 ghost use Rattle.std.specs.Prelude.{◌≡◌, ◌+◌, ◌*◌, ◌<◌, ◌≤◌, min, length, get_or, set};
 ghost use Rattle.std.proofs.Math.Seq.{paste};
 ghost use Rattle.std.specs.Float.{nan};

@@ -1,4 +1,6 @@
 // The closest parameter: the nearest of many samples, made better by Newton's rounds.
+#![tactic(auto)]
+
 ghost use Rattle.std.specs.Prelude.{◌≡◌, ◌+◌, ◌<◌, length, get_or, set, take};
 ghost use Rattle.meaning.specs.Scalar.{plain};
 ghost use Rattle.meaning.specs.Table.{at1};
@@ -26,7 +28,7 @@ use refusal::Refusal;
 // ---- the samples
 
 // The nearest sample so far, its distance, the square from which on no distance is less, and whether every distance so far is finite.
-#[derive(Drop)]
+#[derive(Clone, Copy)]
 struct Best {
     t: f64,
     limit: f64,
@@ -148,7 +150,7 @@ fn sample_all<'a>(u: &'a [f64; 70], n: usize, xs: &'a [f64; 66], ys: &'a [f64; 6
 // ---- Newton's rounds
 
 // (C - p)·C' and its derivative.
-#[derive(Drop)]
+#[derive(Clone, Copy)]
 struct Slope {
     f: f64,
     df: f64,
@@ -178,7 +180,7 @@ fn slope_at<'a>(
 }
 
 // A parameter, and how many rounds may follow.
-#[derive(Drop)]
+#[derive(Clone, Copy)]
 struct Progress {
     t: f64,
     left: usize,

@@ -1,4 +1,6 @@
 // Curves from control points.
+#![tactic(auto)]
+
 ghost use Rattle.std.specs.Prelude.{◌≡◌};
 ghost use Rattle.curve.specs.Build.{building, control_curve};
 ghost use Rattle.control.specs.Rules.{control_rules};

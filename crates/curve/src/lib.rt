@@ -1,4 +1,6 @@
 // The curve record, its check, and what its builds have in common.
+#![tactic(auto)]
+
 ghost use Rattle.std.specs.Prelude.{◌≡◌};
 ghost use Rattle.refusal.specs.Refusals.{first_of};
 ghost use Rattle.shape.specs.Offered.{with11};
@@ -9,7 +11,7 @@ use refusal::Refusal;
 
 // A cubic: `points` control points and `knot_count` knots, four more, and the length of its control polygon. What stands past the counts is +0.0
 // in a curve that was built, and not read.
-#[derive(Drop)]
+#[derive(Clone, Copy)]
 pub struct Curve {
     pub points: usize,
     pub knot_count: usize,
@@ -20,7 +22,7 @@ pub struct Curve {
 }
 
 // What a build answers: the curve, or a refusal and the empty curve.
-#[derive(Drop)]
+#[derive(Clone, Copy)]
 pub struct Built {
     pub refusal: Refusal,
     pub curve: Curve,

@@ -1,4 +1,6 @@
 // The distance of two points, which everything that measures calls by this name; and the square that tells most of them.
+#![tactic(auto)]
+
 ghost use Rattle.std.specs.Prelude.{◌≡◌, false, suc, ◌^◌, ◌<◌, max, T};
 ghost use Rattle.std.specs.Float.Ieee.Exact.{HasValue};
 ghost use Rattle.meaning.specs.Root.{in_units, unsigned};

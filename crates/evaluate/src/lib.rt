@@ -1,5 +1,7 @@
 // A point of a curve and its derivatives in plain doubles, over counts and arrays or over slices: the doors above check those. What one span
 // reads, six knots and four control points, is worked on by the same functions from either.
+#![tactic(auto)]
+
 ghost use Rattle.std.specs.Prelude.{◌≡◌, ◌+◌, ◌*◌, ◌≤◌, ◌<◌, length};
 ghost use Rattle.meaning.specs.Scalar.{plain};
 ghost use Rattle.span.specs.Counting.{counted_of};

@@ -1,5 +1,7 @@
 // A point of a curve on values with partials, from what one span reads: six knots and four control points. Where a parameter lies, in the domain or past
 // one of its ends, and on which span, is the caller's to find.
+#![tactic(auto)]
+
 ghost use Rattle.std.specs.Prelude.{◌≡◌};
 ghost use Rattle.partials.specs.Dual.{dual};
 ghost use Rattle.plane_partials.specs.View.{view_d};

@@ -1,5 +1,7 @@
 // Why demand 3 (docs/RULES.md) bounds the knots: a curve that the rules accept, with knots of 2^1023, all of its control points (1, 1), and its point at 0 elsewhere. docs/HULL.md
 // has the reason, and `hull/proofs/Examples` the same as a theorem.
+#![tactic(auto)]
+
 use libc::STDOUT_FILENO;
 
 // Writes where the point at 0 lies.

@@ -1,4 +1,6 @@
 // Curves through points: the parameters and knots, the system of the control points, and the build.
+#![tactic(auto)]
+
 ghost use Rattle.std.specs.Prelude.{◌≡◌, ◌||◌, ◌+◌, ◌-◌, ◌*◌, ◌≤◌, ◌<◌, length};
 ghost use Rattle.std.specs.Float.{nan};
 ghost use Rattle.meaning.specs.Scalar.{plain};

@@ -1,4 +1,6 @@
 // Curves through at most 12 points, with partials with respect to their coordinates: the parameters and knots, and the system of the control points.
+#![tactic(auto)]
+
 ghost use Rattle.std.specs.Prelude.{◌≡◌, cond, true, ℕ, ◌+◌, ◌-◌, ◌*◌, ◌≤◌, ◌<◌, length, drop, replicate};
 ghost use mathlib.Core.List.{[], ◌++◌, flatten};
 ghost use Rattle.meaning.specs.Scalar.{zero64};
@@ -24,7 +26,7 @@ use solve_partials::Four;
 
 // What a span of a curve reads: its six knots and its four control points, and whether every number that the fit stores is finite with its partials.
 // Where one is not, all of them are +0.0.
-#[derive(Drop)]
+#[derive(Clone, Copy)]
 pub struct Piece {
     pub knots: [Dv; 6],
     pub xs: [Dv; 4],

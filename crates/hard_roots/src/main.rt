@@ -1,5 +1,7 @@
 // Writes the bits of the root of each double on standard input, which has a line of 16 upper-case hexadecimal digits for the bits of each. For 17 bytes
 // that are no such line, or the bits of a NaN, it writes a question mark and goes on, so that no damage to the file passes unseen.
+#![tactic(auto)]
+
 ghost use Rattle.std.specs.Prelude.{◌≡◌, true, not};
 ghost use Rattle.std.specs.Float.{binary64};
 ghost use Rattle.std.specs.Float.Ieee.{nan_bits};

@@ -1,4 +1,6 @@
 // The knot rules.
+#![tactic(auto)]
+
 ghost use Rattle.std.specs.Prelude.{◌≡◌, true, false, [], ◌+◌, ◌≤◌, ◌<◌, length};
 ghost use Rattle.refusal.specs.Refusals.{first_of};
 ghost use Rattle.meaning.specs.Search.{seek};
@@ -10,7 +12,7 @@ ghost use Rattle.knots.specs.declared.Form.TheVariants.{Control};
 use refusal::Refusal;
 
 // What a spline's handles are: its control points, or points that it passes through.
-#[derive(Drop)]
+#[derive(Clone, Copy)]
 pub enum Form {
     Control,
     Fit,

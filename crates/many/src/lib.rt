@@ -1,4 +1,6 @@
 // Many questions of one curve in one call: each has its own place in a lent slice of numbers, and its refusal in one of refusals.
+#![tactic(auto)]
+
 ghost use Rattle.std.specs.Prelude.{◌≡◌, [], ◌∷◌};
 ghost use Rattle.refusal.specs.Refusals.{first_of};
 ghost use Rattle.many.specs.Many.{room_row};

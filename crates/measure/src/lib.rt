@@ -1,4 +1,6 @@
 // What is measured of a whole curve: the length of its polygon, and its domain. A curve is checked again, whoever made it.
+#![tactic(auto)]
+
 ghost use Rattle.std.specs.Prelude.{◌≡◌, [], ◌∷◌, ◌+◌, ◌<◌, length};
 ghost use Rattle.outcome.specs.Told.{told, telling};
 ghost use Rattle.shape.specs.Offered.{in_slices};
@@ -12,7 +14,7 @@ use outcome::Told;
 use refusal::Refusal;
 
 // The first knot and the last, or why there is no curve.
-#[derive(Drop)]
+#[derive(Clone, Copy)]
 pub enum Interval {
     Between(f64, f64),
     Refused(Refusal),

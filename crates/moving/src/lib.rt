@@ -1,4 +1,6 @@
 // One control point of a record moved. The record is checked again, whoever made it.
+#![tactic(auto)]
+
 ghost use Rattle.std.specs.Prelude.{◌≡◌, false, ◌<◌};
 ghost use Rattle.moving.specs.Moving.{moved, moved_by, moved_out, moved_into};
 

@@ -1,4 +1,6 @@
 // What the curve code asks of a double, by comparisons: each function answers for every bit pattern. And two tests joined.
+#![tactic(auto)]
+
 ghost use Rattle.std.specs.Prelude.{◌≡◌, ◌&&◌, ◌||◌};
 ghost use Rattle.std.specs.Float.{binary64};
 ghost use Rattle.std.specs.Float.Ieee.{to_bits};

@@ -1,4 +1,6 @@
 // What a call leaves behind: numbers in a lent slice, where there is room and each is finite, or one number by value; else a refusal.
+#![tactic(auto)]
+
 ghost use Rattle.std.specs.Prelude.{◌≡◌, true, not, ◌≤◌, length};
 ghost use Rattle.std.specs.Float.Ieee.Scale.{finite};
 ghost use Rattle.meaning.specs.Scalar.{plain};
@@ -10,7 +12,7 @@ ghost use Rattle.outcome.specs.Outcome.{either_wild, delivery_rules, outcome, an
 use refusal::Refusal;
 
 // A number, or why there is none.
-#[derive(Drop)]
+#[derive(Clone, Copy)]
 pub enum Told {
     Is(f64),
     Refused(Refusal),

@@ -1,4 +1,6 @@
 // A value with its partials, and the operations on it: the original's `Dv`, with an array of 27 for its vector.
+#![tactic(auto)]
+
 ghost use Rattle.std.specs.Prelude.{◌≡◌, ◌≤◌, ◌<◌, min, max};
 ghost use Rattle.std.specs.Float.{binary64};
 ghost use Rattle.std.specs.Float.Ieee.{mul};
@@ -6,7 +8,7 @@ ghost use Rattle.partials.specs.Dual.{part_at, part_of, partials, zip_dv, map_dv
 ghost use Rattle.partials.specs.Rule.{rule_of};
 
 // The value is v. Its partial with respect to variable k is g[k], for each k below n; there are no others.
-#[derive(Drop)]
+#[derive(Clone, Copy)]
 pub struct Dv {
     pub v: f64,
     pub g: [f64; 27],
@@ -14,7 +16,7 @@ pub struct Dv {
 }
 
 // How an operation puts two partials together.
-#[derive(Drop)]
+#[derive(Clone, Copy)]
 pub enum Rule {
     Add,
     Sub,

@@ -1,10 +1,12 @@
 // Vectors of the plane: the original's `P2`. `plane_partials` has the copy over values with partials.
+#![tactic(auto)]
+
 ghost use Rattle.std.specs.Prelude.{◌≡◌};
 ghost use Rattle.meaning.specs.Scalar.{plain};
 ghost use Rattle.plane.specs.Vector.{add_v, sub_v, scale_v, dot_v, cross_v, norm_v, unit_v, rot90V};
 ghost use Rattle.plane.specs.View.{view};
 
-#[derive(Drop)]
+#[derive(Clone, Copy)]
 pub struct P2 {
     pub x: f64,
     pub y: f64,

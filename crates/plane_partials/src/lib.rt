@@ -1,4 +1,6 @@
 // Vectors of the plane with partials: the second copy of `plane`, over values with partials.
+#![tactic(auto)]
+
 ghost use Rattle.std.specs.Prelude.{◌≡◌};
 ghost use Rattle.partials.specs.Dual.{dual};
 ghost use Rattle.plane.specs.Vector.{add_v, sub_v, scale_v, dot_v, cross_v, norm_v, unit_v, rot90V};
@@ -7,7 +9,7 @@ ghost use Rattle.plane_partials.specs.View.{view_d};
 use partials::Dv;
 
 // A vector of values with partials.
-#[derive(Drop)]
+#[derive(Clone, Copy)]
 pub struct P2d {
     pub x: Dv,
     pub y: Dv,

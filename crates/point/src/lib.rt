@@ -1,4 +1,6 @@
 // What is asked of a curve at a parameter: the point with its derivatives, the unit tangent. A curve is checked again, whoever made it.
+#![tactic(auto)]
+
 ghost use Rattle.std.specs.Prelude.{◌≡◌};
 ghost use Rattle.outcome.specs.Outcome.{outcome, answering};
 ghost use Rattle.shape.specs.Offered.{in_slices};

@@ -1,4 +1,6 @@
 // A curve asked for its points at many parameters in one call: it is checked once, and each parameter is judged by itself.
+#![tactic(auto)]
+
 ghost use Rattle.std.specs.Prelude.{◌≡◌, ◌+◌, length, set};
 ghost use Rattle.meaning.specs.Scalar.{plain};
 ghost use Rattle.refusal.specs.Refusals.{first_of};

@@ -1,9 +1,11 @@
 // Why something is refused, as one value: made here and passed on whole by everything above.
+#![tactic(auto)]
+
 ghost use Rattle.std.specs.Prelude.{◌≡◌};
 ghost use Rattle.refusal.specs.Refusals.{refusal};
 
 // The number of the first rule that applies, or 0 where nothing is refused.
-#[derive(Drop)]
+#[derive(Clone, Copy)]
 pub struct Refusal {
     pub number: u64,
 }

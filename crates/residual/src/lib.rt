@@ -1,4 +1,6 @@
 // The residuals of a point held on a curve, with their partials with respect to every number of the handles, of the point, and the parameter.
+#![tactic(auto)]
+
 ghost use Rattle.std.specs.Prelude.{◌≡◌, true, ◌&&◌, List, ◌+◌, ◌-◌, ◌*◌, ◌≤◌, ◌<◌, min, length, Float};
 ghost use Rattle.std.proofs.Math.Seq.{paste};
 ghost use Rattle.meaning.specs.Scalar.{plain, zero64};
@@ -29,7 +31,7 @@ use refusal::Refusal;
 
 // What is read of a curve for one parameter: the ends of its domain, the six knots and the four control points of a span, and the verdict on all that
 // the curve's build stored.
-#[derive(Drop)]
+#[derive(Clone, Copy)]
 struct Piece {
     lo: f64,
     hi: f64,
@@ -40,7 +42,7 @@ struct Piece {
 }
 
 // The three residuals: the point less that of the curve, and how far the parameter lies past the domain.
-#[derive(Drop)]
+#[derive(Clone, Copy)]
 struct Three {
     x: Dv,
     y: Dv,

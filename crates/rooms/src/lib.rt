@@ -1,10 +1,12 @@
 // A curve's numbers in the rooms that a record has for them: 66 control points and 70 knots.
+#![tactic(auto)]
+
 ghost use Rattle.std.specs.Prelude.{◌≡◌, ◌*◌, ◌≤◌, min, length};
 ghost use Rattle.shape.specs.Shape.{every_other};
 ghost use Rattle.rooms.specs.Filled.{stored_knots, rooms_of};
 
 // Control points, their x and y apart, and knots.
-#[derive(Drop)]
+#[derive(Clone, Copy)]
 pub struct Rooms {
     pub points: usize,
     pub xs: [f64; 66],

@@ -1,4 +1,6 @@
 // The square root of a double, rounded to the nearest double. The work is done on whole numbers; floating point only guesses.
+#![tactic(auto)]
+
 ghost use Rattle.std.specs.Prelude.{◌≡◌, ◌+◌, ◌*◌, ◌^◌, ◌≤◌, ◌<◌};
 ghost use Rattle.std.specs.Float.{binary64};
 ghost use Rattle.std.specs.Float.Ieee.{of_bits};
@@ -62,7 +64,7 @@ fn digits(m: u64, p: u64) -> u64
 
 // A positive double as m * 2 ^ a units of 2 ^ -2096, with an m of 53 digits: 2 ^ -1074 is the smallest double, and the 1022 places more
 // keep the exponent a from going below 0 where a subnormal's digits are moved up.
-#[derive(Drop)]
+#[derive(Clone, Copy)]
 struct Scaled {
     m: u64,
     a: u64,

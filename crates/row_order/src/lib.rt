@@ -1,4 +1,6 @@
 // An order of rows, for a solve that leaves its rows where they lie: number r is the place of row r. A solve has at most 66 rows.
+#![tactic(auto)]
+
 ghost use Rattle.std.specs.Prelude.{◌≡◌};
 ghost use Rattle.meaning.specs.Search.{listed};
 ghost use Rattle.row_order.specs.Order.{exchanged_in};

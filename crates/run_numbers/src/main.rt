@@ -1,5 +1,7 @@
 // The rules' numbers to check by that are not starred, run: the closest parameters of A and B, the orders that are accepted, curves that are
 // accepted and refused, and lengths that are stored. Each line has what is asked and the answer; `stdout` has the rules' answers.
+#![tactic(auto)]
+
 use curve::{Built, Curve};
 use knots::Form;
 use libc::STDOUT_FILENO;

@@ -1,4 +1,6 @@
 // The shape of a curve, checked against the rules: its counts and rooms, or handles in a slice.
+#![tactic(auto)]
+
 ghost use Rattle.std.specs.Prelude.{◌≡◌, true};
 ghost use Rattle.refusal.specs.Refusals.{first_of};
 ghost use Rattle.knots.specs.declared.Form.TheVariants.{Control};

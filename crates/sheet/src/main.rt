@@ -1,4 +1,6 @@
 // Reads a sheet from standard input and writes its answer to standard output. All that it computes is `sheet_rooms::reply`.
+#![tactic(auto)]
+
 use libc::{STDIN_FILENO, STDOUT_FILENO};
 
 fn main() {

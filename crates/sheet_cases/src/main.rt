@@ -1,5 +1,7 @@
 // Answers the recorded sheets on standard input, each answer after a line with the sheet's number. Before each sheet stands a line with its length, 8
 // upper-case hexadecimal digits. Where the file is cut off, or there is no such line, `damaged` is written, and nothing more.
+#![tactic(auto)]
+
 use libc::{STDIN_FILENO, STDOUT_FILENO};
 
 // Writes the answer to the sheet that the first n bytes of the room are.

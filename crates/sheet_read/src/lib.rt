@@ -1,4 +1,6 @@
 // The sheet's grammar: what stands at a place of a text, the sections, the sheet.
+#![tactic(auto)]
+
 ghost use Rattle.std.specs.Prelude.{◌≡◌, not, ◌||◌, ◌+◌, ◌*◌, ◌^◌, ◌≤◌, ◌<◌, length, eqb};
 ghost use Rattle.std.specs.Float.{binary64};
 ghost use Rattle.std.specs.Float.Ieee.{of_bits};
@@ -168,7 +170,7 @@ fn has_numbers(s: &[u8], per: usize, n: usize, start: usize) -> bool
 // ---- sections
 
 // A section: whether it has the form, how many lines it has, where its first number stands, and where what comes after it does.
-#[derive(Drop)]
+#[derive(Clone, Copy)]
 pub struct Section {
     pub formed: bool,
     pub count: usize,
@@ -220,7 +222,7 @@ fn read_section(s: &[u8], w: &[u8], most: usize, per: usize, at: usize) -> Secti
 // ---- the sheet
 
 // A sheet: whether it has the form, what its points are, and its sections.
-#[derive(Drop)]
+#[derive(Clone, Copy)]
 pub struct Sheet {
     pub formed: bool,
     pub form: Form,
@@ -306,7 +308,7 @@ pub fn double(s: &[u8], at: usize) -> f64
 // ---- lines of recorded cases
 
 // A line of hexadecimal digits: whether it has the form, and the number that it writes.
-#[derive(Drop)]
+#[derive(Clone, Copy)]
 pub struct Line {
     pub formed: bool,
     pub bits: u64,

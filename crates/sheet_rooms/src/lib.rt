@@ -1,9 +1,11 @@
 // The rooms of the sheet program: how much of its input it reads, and where its answer is made. They are as large as any input asks for.
+#![tactic(auto)]
+
 ghost use Rattle.std.specs.Prelude.{◌≡◌, min, ◌≤◌, length, take};
 ghost use Rattle.sheet_rooms.specs.Reply.{reply_to, ReplyPromise, Replies};
 
 // The answer: the first `count` bytes.
-#[derive(Drop)]
+#[derive(Clone, Copy)]
 pub struct Answer {
     pub bytes: [u8; 36876],
     pub count: usize,

@@ -1,4 +1,6 @@
 // A sheet's answer: the lines that are printed of it, put into a lent slice of bytes.
+#![tactic(auto)]
+
 ghost use Rattle.std.specs.Prelude.{◌≡◌, false, ◌++◌, ◌+◌, ◌*◌, ◌≤◌, ◌<◌, length, take};
 ghost use Rattle.sheet_read.specs.Number.{glyph};
 ghost use Rattle.sheet_read.specs.Grammar.{numbers_at};

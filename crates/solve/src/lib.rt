@@ -1,4 +1,6 @@
 // Gaussian elimination with partial pivoting and back substitution in a lent work buffer, on doubles.
+#![tactic(auto)]
+
 ghost use Rattle.std.specs.Prelude.{◌≡◌, ◌++◌, ◌+◌, ◌*◌, ◌≤◌, length, replicate};
 ghost use Rattle.meaning.specs.Scalar.{plain, zero64};
 ghost use Rattle.solve.specs.Rows.{OfRows};
@@ -11,7 +13,7 @@ mod work;
 
 // The coordinates of the control points, +0.0 past their number, and whether every number stored on the way was finite.
 // Where one was not, all coordinates are +0.0.
-#[derive(Drop)]
+#[derive(Clone, Copy)]
 pub struct Solved {
     pub xs: [f64; 66],
     pub ys: [f64; 66],

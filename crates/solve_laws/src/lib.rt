@@ -1,1 +1,3 @@
 // Laws of a solve that no code of it needs. There is no code here: proofs/ has them.
+#![tactic(auto)]
+

@@ -90,7 +90,7 @@ fn all_finite(t: &[f64], n: usize) -> bool
 }
 
 // What is stored in a cell: how many partials there are, and whether they and the value are finite.
-#[derive(Drop)]
+#[derive(Clone, Copy)]
 pub(crate) struct Stored {
     pub(crate) count: usize,
     pub(crate) fine: bool,

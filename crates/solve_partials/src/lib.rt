@@ -1,4 +1,6 @@
 // Gaussian elimination with partial pivoting and back substitution in two lent slices, on values with partials.
+#![tactic(auto)]
+
 ghost use Rattle.std.specs.Prelude.{◌≡◌, ◌+◌, ◌*◌, ◌<◌, ◌≤◌, length, get_or, drop, replicate, ◌++◌};
 ghost use Rattle.meaning.specs.Scalar.{zero64};
 ghost use Rattle.partials.specs.Dual.{dual, cst_dv};
@@ -18,7 +20,7 @@ mod rows;
 mod work;
 
 // Four control points, and whether every number stored on the way was finite. Where one was not, all coordinates are +0.0.
-#[derive(Drop)]
+#[derive(Clone, Copy)]
 pub struct Four {
     pub xs: [Dv; 4],
     pub ys: [Dv; 4],

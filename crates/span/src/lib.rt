@@ -1,4 +1,6 @@
 // The span of a parameter, found by a count.
+#![tactic(auto)]
+
 ghost use Rattle.std.specs.Prelude.{◌≡◌, true, ◌≤◌, ◌<◌, length};
 ghost use Rattle.span.specs.Span.{IsSpan};
 ghost use Rattle.span.specs.Counting.{counted_of};

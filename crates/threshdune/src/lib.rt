@@ -1,5 +1,7 @@
 // The library for C and Rust to link: the same proved functions, over numbers and slices. include/threshdune.h declares the curves,
 // include/threshdune_parts.h the rest. What C is told of a refusal is its number.
+#![tactic(auto)]
+
 ghost use Rattle.std.specs.Prelude.{◌≡◌, false, []};
 ghost use Rattle.std.specs.Float.Ieee.Scale.{finite};
 ghost use Rattle.meaning.specs.Root.{root_of};

@@ -1,5 +1,7 @@
 // Both solves on systems of small whole numbers, in which pivots tie, and often between rows that an exchange has turned round, as no fit has them.
 // tools/make-turned-rows, which moves whole rows and knows nothing of this program's solves, computes the expected lines and counts those ties.
+#![tactic(auto)]
+
 use libc::STDOUT_FILENO;
 use partials::Dv;
 

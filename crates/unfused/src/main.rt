@@ -1,6 +1,8 @@
 // Writes a curve's point and its derivatives up to the third at 41 parameters, each double by its bits. The document's own numbers
 // are small binary fractions, on which a product fused into a sum rounds to the same bits; these are not, and tools/make-unfused,
 // which computes the expected lines by the original, counts how many a fused operation would change.
+#![tactic(auto)]
+
 use curve::Curve;
 use libc::STDOUT_FILENO;
 

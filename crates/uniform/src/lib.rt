@@ -1,4 +1,6 @@
 // Uniform knots.
+#![tactic(auto)]
+
 ghost use Rattle.std.specs.Prelude.{◌≡◌, ◌+◌, ◌≤◌, ◌<◌};
 ghost use Rattle.uniform.specs.Uniform.{uniform_at, uniform_of};
 

@@ -3,7 +3,7 @@
 
 ghost use Rattle.std.specs.Prelude.{◌≡◌};
 ghost use Rattle.meaning.specs.Scalar.{plain};
-ghost use Rattle.plane.specs.Vector.{add_v, sub_v, scale_v, dot_v, cross_v, norm_v, unit_v, rot90V};
+ghost use Rattle.plane.specs.Vector.{add_v, sub_v, scale_v, dot_v, cross_v, norm_v, unit_v, rot90_v};
 ghost use Rattle.plane.specs.View.{view};
 
 #[derive(Clone, Copy)]
@@ -92,7 +92,7 @@ impl P2 {
     // self turned by 90 degrees counter-clockwise.
     // Corresponds to spline.rs: P2::rot90.
     pub fn rot90(self) -> P2
-        ensures { view result ≡ rot90V plain (view self) }
+        ensures { view result ≡ rot90_v plain (view self) }
     {
         P2 {
             x: -self.y,

@@ -3,7 +3,7 @@
 
 ghost use Rattle.std.specs.Prelude.{◌≡◌};
 ghost use Rattle.partials.specs.Dual.{dual};
-ghost use Rattle.plane.specs.Vector.{add_v, sub_v, scale_v, dot_v, cross_v, norm_v, unit_v, rot90V};
+ghost use Rattle.plane.specs.Vector.{add_v, sub_v, scale_v, dot_v, cross_v, norm_v, unit_v, rot90_v};
 ghost use Rattle.plane_partials.specs.View.{view_d};
 
 use partials::Dv;
@@ -97,7 +97,7 @@ impl P2d {
     // self turned by 90 degrees counter-clockwise.
     // Corresponds to spline.rs: P2::rot90.
     pub fn rot90(self) -> P2d
-        ensures { view_d result ≡ rot90V dual (view_d self) }
+        ensures { view_d result ≡ rot90_v dual (view_d self) }
     {
         let x = self.y.neg();
         // Negated twice it is what it was, but a result: its partials are counted.

@@ -9,7 +9,7 @@ ghost use Rattle.meaning.specs.Number.{size_of, at_least, clamp_of};
 ghost use Rattle.meaning.specs.Scalar.{plain};
 ghost use Rattle.refusal.specs.Refusals.{refusal};
 ghost use Rattle.partials.specs.Dual.{dual, var_dv, add_dv, sub_dv, mul_dv, div_dv, neg_dv, root_dv, overshoot_dv, fine_dv};
-ghost use Rattle.plane.specs.Vector.{add_v, sub_v, scale_v, dot_v, cross_v, norm_v, unit_v, rot90V};
+ghost use Rattle.plane.specs.Vector.{add_v, sub_v, scale_v, dot_v, cross_v, norm_v, unit_v, rot90_v};
 ghost use Rattle.basis.specs.Basis.{derivatives_of};
 ghost use Rattle.knots.specs.declared.Form.TheVariants.{Control, Fit};
 ghost use Rattle.outcome.specs.Outcome.{outcome};
@@ -480,7 +480,7 @@ pub extern "C" fn threshdune_plane_unit(ax: f64, ay: f64, out: &mut [f64]) -> u6
 // a turned by 90 degrees counter-clockwise.
 #[unsafe(no_mangle)]
 pub extern "C" fn threshdune_plane_rot90(ax: f64, ay: f64, out: &mut [f64]) -> u64
-    ensures { AnsweredP (rot90V plain (record { x = ax; y = ay })) out.old result out.new }
+    ensures { AnsweredP (rot90_v plain (record { x = ax; y = ay })) out.old result out.new }
 {
     let a = P2 { x: ax, y: ay };
     c_values::answer_pair(a.rot90(), out)
@@ -604,7 +604,7 @@ pub extern "C" fn threshdune_plane_partials_rot90(
     out: &mut [f64],
     counts: &mut [u64],
 ) -> u64
-    ensures { AnsweredV (rot90V dual (read_v a.now a_counts.now))
+    ensures { AnsweredV (rot90_v dual (read_v a.now a_counts.now))
         out.old counts.old result out.new counts.new }
 {
     let x = c_values::read_vector(a, a_counts);

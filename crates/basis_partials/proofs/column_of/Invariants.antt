@@ -1,0 +1,9 @@
+-- `basis_partials::column_of` meets its contract: each turn of the loop is `columnTurn`.
+use Prim.Native.Nat.{◌-◌}
+use Rattle.partials.specs.Dual.{dual}
+use Rattle.meaning.proofs.For.{At}
+use Rattle.basis.specs.Triangle.{column_turn}
+use Rattle.basis_partials.proofs.column_of.Given as goal
+
+abbrev pub invariant-loop-r : goal.invariant-loop-r
+invariant-loop-r l = At 0 l.j (column_turn dual l.left l.right l.j) (record { l.ndu = l.initial.ndu; l.saved = l.initial.saved }) l.r (record { l.ndu = l.ndu; l.saved = l.saved })

@@ -1,0 +1,14 @@
+-- `basis_partials::function_of` meets its contract: each turn of the loop is `orderTurn`.
+use mathlib.Core.Path.{◌≡◌}
+use Prim.Native.Nat.{◌+◌, ◌-◌}
+use Rattle.partials.specs.Dual.{dual}
+use Rattle.meaning.proofs.For.{At}
+use Rattle.basis.specs.Derivatives.{start_coefs}
+use Rattle.basis.specs.Basis.{order_turn}
+use Rattle.basis_partials.specs.View.{view}
+use Rattle.basis_partials.proofs.function_of.Given as goal
+
+abbrev pub invariant-loop-k : goal.invariant-loop-k
+invariant-loop-k l =
+    (l.end ≡ l.n + 1)
+    × At 1 (l.n + 1) (order_turn dual l.ndu l.r) (record { l.coefs = start_coefs dual; l.ders = l.initial.ders }) l.k (record { l.coefs = view l.coefs; l.ders = l.ders })

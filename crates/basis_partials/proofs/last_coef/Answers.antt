@@ -1,0 +1,10 @@
+-- `basis_partials::last_coef` meets its contract, where there is such a coefficient and where not.
+use Rattle.partials.specs.Dual.{dual}
+use Rattle.basis.proofs.Laws.{last_taken, last-left}
+use Rattle.basis_partials.proofs.last_coef.Goals as goal
+
+pub returns-then-r-k : goal.returns-then-r-k
+returns-then-r-k c = last_taken dual _ _ _ _ c.if-r-k.true c.last_put.ensures
+
+pub returns : goal.returns
+returns c = last-left dual _ _ _ _ c.if-r-k.false

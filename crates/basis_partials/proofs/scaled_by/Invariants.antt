@@ -1,0 +1,10 @@
+-- `basis_partials::scaled_by` meets its contract: each turn of the loop is `scaleTurn`.
+use mathlib.Core.Path.{◌≡◌}
+use Prim.Native.Nat.{◌+◌, ◌-◌}
+use Rattle.partials.specs.Dual.{dual}
+use Rattle.meaning.proofs.For.{At}
+use Rattle.basis.specs.Basis.{scale_turn}
+use Rattle.basis_partials.proofs.scaled_by.Given as goal
+
+abbrev pub invariant-loop-k : goal.invariant-loop-k
+invariant-loop-k l = (l.end ≡ l.n + 1) × At 1 (l.n + 1) (scale_turn dual) (record { l.ders = l.initial.ders; l.factor = l.initial.factor }) l.k (record { l.ders = l.ders; l.factor = l.factor })

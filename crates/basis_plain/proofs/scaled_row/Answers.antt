@@ -1,0 +1,17 @@
+-- `basis_plain::scaled_row` meets its contract: the loop multiplies one entry in each turn.
+use native.Mathlib.Omega.{arith}
+use mathlib.Core.Path.{refl}
+use Prim.Native.Nat.{◌-◌}
+use Rattle.meaning.proofs.For.{first, next, last}
+use Rattle.basis.specs.Basis.{scaled_row}
+use Rattle.basis_plain.proofs.scaled_row.Goals as goal
+
+pub loop-j-init : goal.loop-j-init
+loop-j-init c = first (omega arith)
+
+pub loop-j-preserved : goal.loop-j-preserved
+loop-j-preserved c = next c.loop-j.invariant (omega arith) refl
+
+pub returns : goal.returns
+unfolding scaled_row
+returns c = last c.loop-j.invariant (omega arith)

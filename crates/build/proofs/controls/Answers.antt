@@ -1,0 +1,8 @@
+-- `build::controls` meets its contract.
+use Rattle.build.proofs.controls.Goals as goal
+
+pub returns-in-Control : goal.returns-in-Control
+returns-in-Control c = rw c.enum_told-1.given.1
+
+pub returns-in-Fit : goal.returns-in-Fit
+returns-in-Fit c = rw c.enum_told-in-Fit-1.given.1

@@ -1,0 +1,23 @@
+-- `cells::put` meets its contract: a case for a cell that there is not, and one for a cell that there is.
+use mathlib.Core.Path.{sym, ◌∙◌}
+use borrow.Author.Tests.{not-true, not-false}
+use Rattle.cells.specs.Cell.{doubles_with, counts_with}
+use Rattle.cells.proofs.Cells.{there}
+use Rattle.cells.proofs.put.Goals as goal
+
+pub returns-then-not-has_cell : goal.returns-then-not-has_cell
+unfolding doubles_with counts_with
+returns-then-not-has_cell c =
+    let no = sym c.has_cell.ensures ∙ not-true _ c.if-not-has_cell.true in
+    (rw no, rw no)
+
+pub put_cell-requires : goal.put_cell-requires
+put_cell-requires c =
+    let t = there _ _ _ _ (sym c.has_cell.ensures ∙ not-false _ c.if-not-has_cell.false) in
+    (t.narrow, t.byte, t.room)
+
+pub returns : goal.returns
+unfolding doubles_with counts_with
+returns c =
+    let yes = sym c.has_cell.ensures ∙ not-false _ c.if-not-has_cell.false in
+    (rw yes c.put_cell.ensures.0, rw yes c.put_cell.ensures.1)

@@ -1,0 +1,20 @@
+-- `evaluate::weigh` meets its contract: a turn adds one product.
+use native.Mathlib.Omega.{arith}
+use Prim.Native.Nat.{◌-◌}
+use Rattle.meaning.specs.Scalar.{plain}
+use Rattle.meaning.proofs.For.{first, next, last}
+use Rattle.evaluate.specs.Point.{weighted}
+use Rattle.evaluate.proofs.Pieces.{weigh_turn}
+use Rattle.evaluate.proofs.weigh.Goals as goal
+
+pub loop-j-init : goal.loop-j-init
+loop-j-init c = first (omega arith)
+
+pub loop-j-preserved : goal.loop-j-preserved
+loop-j-preserved c =
+    let a = c.args in
+    next c.loop-j.invariant (omega arith) (weigh_turn plain a.a.now a.t2 c.loop-j.j c.loop-j.s)
+
+pub returns : goal.returns
+unfolding weighted
+returns c = last c.loop-j.invariant (omega arith)

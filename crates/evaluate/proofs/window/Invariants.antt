@@ -1,0 +1,10 @@
+-- `evaluate::window` meets its contract: a turn copies one knot.
+use Prim.Native.Nat.{◌+◌, ◌-◌}
+use lib.ListN.{set}
+use Rattle.meaning.specs.Scalar.{plain}
+use Rattle.meaning.specs.Table.{at1}
+use Rattle.meaning.proofs.For.{At}
+use Rattle.evaluate.proofs.window.Given as goal
+
+abbrev pub invariant-loop-j : goal.invariant-loop-j
+invariant-loop-j l = At 0 6 (λ k l. set l (k + 1) (at1 plain l.u (l.i - 2 + k))) l.initial.w l.j l.w

@@ -1,0 +1,17 @@
+-- `fit::knots_by` meets its contract: a turn stores one knot.
+use native.Mathlib.Omega.{arith}
+use mathlib.Core.Path.{refl}
+use Prim.Native.Nat.{◌-◌}
+use Rattle.meaning.proofs.Filling.{empty, filled, full}
+use Rattle.fit.specs.Parameters.{knot_at, knots_by}
+use Rattle.fit.proofs.knots_by.Goals as goal
+
+pub loop-j-init : goal.loop-j-init
+loop-j-init c = empty refl
+
+pub loop-j-preserved : goal.loop-j-preserved
+loop-j-preserved c = filled c.loop-j.invariant (omega arith) c.knot_at.ensures
+
+pub returns : goal.returns
+unfolding knots_by
+returns c = full c.loop-j.invariant (omega arith)

@@ -1,0 +1,17 @@
+-- `fit::total` meets its contract: a turn adds one step.
+use native.Mathlib.Omega.{arith}
+use Prim.Native.Nat.{◌-◌}
+use mathlib.Core.Path.{refl}
+use Rattle.meaning.proofs.For.{first, next, last}
+use Rattle.fit.specs.Parameters.{sum_of}
+use Rattle.fit.proofs.total.Goals as goal
+
+pub loop-i-init : goal.loop-i-init
+loop-i-init c = first (omega arith)
+
+pub loop-i-preserved : goal.loop-i-preserved
+loop-i-preserved c = next c.loop-i.invariant (omega arith) refl
+
+pub returns : goal.returns
+unfolding sum_of
+returns c = last c.loop-i.invariant (omega arith)

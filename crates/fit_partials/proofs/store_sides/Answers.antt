@@ -1,0 +1,26 @@
+-- `fit_partials::store_sides` meets its contract: two numbers stored, the second after the first.
+use mathlib.Core.Path.{◌≡◌, refl}
+use Prim.Native.Nat.{◌+◌}
+use native.Mathlib.Omega.{arith}
+use Rattle.plane_partials.specs.View.{view_d}
+use Rattle.fit_partials.specs.Stored.{side_of}
+use Rattle.fit_partials.proofs.Laid.{room_part, stored_as, stored_join}
+use Rattle.fit_partials.proofs.store_sides.Goals as goal
+
+pub store-x-requires : goal.store-x-requires
+store-x-requires c =
+    let a = c.args in
+    (room_part a.c a.at 2 a.at 1 c.requires.0 (omega arith) refl refl, c.requires.1.0)
+
+pub store-y-requires : goal.store-y-requires
+store-y-requires c =
+    let a = c.args in
+    let done = c.store-x.ensures.laid in
+    (room_part a.c a.at 2 (a.at + 1) 1 c.requires.0 (omega arith) done.doubles done.bytes, c.requires.1.1)
+
+pub returns : goal.returns
+returns c =
+    let a = c.args in
+    let side = side_of (view_d a.b) in
+    stored_join a.c a.at 1 1 side (λ j. a.b.y) (stored_as a.c a.at 1 _ side (λ j h. let e : j ≡ 0 = omega arith in rw e refl) c.store-x.ensures) c.store-y.ensures
+    (λ j h. let e : 1 + j ≡ 1 = omega arith in rw e refl) c.both.ensures

@@ -1,0 +1,12 @@
+-- `measure::length` meets its contract: the rules of the record, then what it stores.
+use mathlib.Core.Path.{sym, ◌∙◌}
+use Rattle.refusal.proofs.Rows.{number_of}
+use Rattle.measure.proofs.Stored.{stored_double, length_refused, length-told}
+use Rattle.measure.proofs.length.Goals as goal
+
+pub returns-then-r-ne0 : goal.returns-then-r-ne0
+returns-then-r-ne0 c = length_refused c.args.t1 c.check-r.ensures c.if-r-ne0.true
+
+pub returns : goal.returns
+returns c =
+    length-told c.args.t1 (stored_double c.args.t1 _ c.good.0) (number_of (sym c.check-r.ensures) ∙ c.if-r-ne0.false)

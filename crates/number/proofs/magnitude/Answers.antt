@@ -1,0 +1,8 @@
+-- `number::magnitude` meets its contract.
+use Rattle.number.proofs.magnitude.Goals as goal
+
+pub returns-then-x : goal.returns-then-x
+returns-then-x c = rw c.if-x.true
+
+pub returns : goal.returns
+returns c = rw c.if-x.false

@@ -1,0 +1,28 @@
+-- `points::answer_each` meets its contract: a turn answers one parameter.
+use native.Mathlib.Omega.{arith}
+use mathlib.Core.List.{List}
+use Prim.Native.Nat.{ℕ, ◌-◌}
+use lib.Ieee.{Float}
+use Rattle.meaning.specs.Scalar.{plain}
+use Rattle.span.specs.Counting.{counted_of}
+use Rattle.evaluate.specs.Point.{orders_of}
+use Rattle.points.proofs.Turns.{turned_first, turned_fits, turned_next, turned_all}
+use Rattle.points.proofs.answer_each.Goals as goal
+
+abbrev orders : List Float → ℕ → List Float → List Float → ℕ → Float → List Float
+orders u n xs ys order t = orders_of plain (counted_of u n) (record { n = n; xs = xs; ys = ys; knots = u }) t order
+
+pub loop-k-init : goal.loop-k-init
+loop-k-init c = turned_first (omega arith)
+
+pub answer_at-requires : goal.answer_at-requires
+answer_at-requires c =
+    turned_fits c.requires c.loop-k.invariant c.loop-k-test.true
+
+pub loop-k-preserved : goal.loop-k-preserved
+loop-k-preserved c =
+    turned_next c.requires c.loop-k.invariant c.loop-k-test.true c.orders-room.ensures
+    c.answer_at.ensures
+
+pub returns : goal.returns
+returns c = turned_all c.loop-k.invariant c.loop-k-test.false

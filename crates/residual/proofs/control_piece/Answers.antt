@@ -1,0 +1,38 @@
+-- `residual::control_piece` meets its contract.
+use mathlib.Core.Path.{refl}
+use Prim.Native.Nat.{◌-◌, ◌<◌}
+use native.Mathlib.Omega.{arith}
+use Rattle.shape.specs.Shape.{points_in}
+use Rattle.residual.proofs.Controls.{room, control-read}
+use borrow.Author.Rules.{rules}
+use Rattle.residual.proofs.control_piece.Goals as goal
+use Rattle.residual.proofs.control_piece.Goals.{After-span-i}
+
+-- the span lies below the number of points
+below : (c : After-span-i) → c.span-i.result < points_in c.args.q.now
+below c =
+    let a = c.args in
+    c.span-i.ensures.1.1.1.1 (room a.q.now a.given a.knots.now c.requires).0
+
+pub bounds-u-n : goal.bounds-u-n
+bounds-u-n c =
+    let a = c.args in
+    omega (arith, (room a.q.now a.given a.knots.now c.requires).1)
+
+pub slice_bounds-span-end : goal.slice_bounds-span-end
+slice_bounds-span-end c = search rules
+
+pub four-xs-requires : goal.four-xs-requires
+four-xs-requires c = omega (arith, below (goal.at.four-xs-requires c).After-span-i)
+
+pub four-ys-requires : goal.four-ys-requires
+four-ys-requires c = omega (arith, below (goal.at.four-ys-requires c).After-span-i)
+
+pub returns : goal.returns
+returns c =
+    let a = c.args in (
+      control-read a.q.now a.given a.knots.now c.requires c.stored_knots-u.ensures a.t c.span-i.result _ refl refl
+          (rw c.clamp.ensures at c.span-i.ensures.1.0) c.span-i.ensures.1.1.0 (below (goal.at.returns c).After-span-i) c.constants-six.ensures
+          c.four-xs.ensures c.four-ys.ensures,
+      refl,
+    )

@@ -1,0 +1,103 @@
+-- `residual::residual` meets its contract.
+use mathlib.Core.Path.{◌≡◌, refl, sym, ap, ◌∙◌}
+use mathlib.Core.List.{List}
+use Prim.Native.Nat.{ℕ, ◌+◌, ◌*◌, ◌≤◌}
+use native.Mathlib.Omega.{arith}
+use lib.ListN.{length}
+use Rattle.partials.specs.declared.Dv.{Dv}
+use Rattle.refusal.proofs.Rows.{Passed, number_of}
+use Rattle.shape.specs.Shape.{Shape}
+use Rattle.shape.specs.Rules.{handle_rules}
+use Rattle.residual.specs.Residual.{Asked, asked, Lent, lent, cells_for, asked_rules, lacks_of, lacks_room}
+use Rattle.residual.specs.Curve.{shape_of, stored_fine, residuals_on}
+use Rattle.residual.specs.Piece.{Ready, in_order}
+use Rattle.residual.proofs.Rules.{passed_handles, all_long}
+use Rattle.residual.proofs.Answers.{room_passed, refused_early, refused_short, concluded}
+use Rattle.residual.proofs.residual.Goals as goal
+use Rattle.residual.proofs.residual.Goals.{After-lacks, Else-lacks, Else-r-ne0, Start}
+
+abbrev question : Start → Asked
+question s = let a = s.args in asked a.form a.handles.now a.given a.knots.now a.px a.py a.t
+
+abbrev slices : Start → Lent
+slices s = let a = s.args in lent a.work.now a.counts.now a.residuals.now a.rows.now
+
+-- the curve and its residuals, by the definition
+abbrev shape_for : Asked → Shape Dv
+shape_for q = shape_of q.form q.handles q.given q.knots
+
+abbrev three_for : Asked → List Dv
+three_for q = residuals_on (shape_for q) q.handles q.px q.py q.t
+
+-- past the rules 1 to 12
+passed : (c : Else-r-ne0) → Passed (asked_rules (question c.before.before.before.before.before.before.before.before.before))
+passed c = number_of (sym c.check-r.ensures) ∙ c.if-r-ne0.false
+
+facts : (c : Else-r-ne0) → let a = c.args in
+    (length a.handles.now ≤ 24) × Passed (handle_rules a.form a.handles.now a.given a.knots.now)
+facts c =
+    let a = c.args in
+    passed_handles a.form a.handles.now a.given a.knots.now a.px a.py a.t (passed c)
+
+-- whether a slice is short
+told : (c : After-lacks) → c.lacks.result ≡ lacks_room c.args.form c.args.handles.now (slices c.before.before.before.before.before.before.before.before.before.before.before)
+told c =
+    let a = c.args in
+    c.lacks.ensures
+    ∙ ap
+    (λ (n : ℕ). lacks_of n (length a.handles.now + 3) (length a.work.now) (length a.counts.now) (length a.residuals.now) (length a.rows.now))
+    c.cells-size.ensures.0
+
+room : (c : Else-lacks) → let a = c.args in
+    (cells_for a.form a.handles.now * (length a.handles.now + 3 + 1) ≤ length a.work.now)
+    × (cells_for a.form a.handles.now ≤ length a.counts.now)
+    × (3 ≤ length a.residuals.now) × (3 * (length a.handles.now + 3) ≤ length a.rows.now)
+room c =
+    let a = c.args in
+    all_long (cells_for a.form a.handles.now) (length a.handles.now + 3) (length a.work.now) (length a.counts.now)
+    (length a.residuals.now) (length a.rows.now) (sym (told c.before) ∙ c.if-lacks.false)
+
+ready : (c : Else-lacks) → let a = c.args in
+    Ready a.form a.handles.now a.given a.knots.now (length a.handles.now + 3) a.work.now a.counts.now
+ready c =
+    let f = facts c.before.before.before in
+    let r = room c in
+    record { rules = f.1; few = omega (arith, f.0); wide = omega arith; narrow = omega (arith, f.0); bytes = r.1; doubles = r.0 }
+
+pub returns-then-r-ne0 : goal.returns-then-r-ne0
+returns-then-r-ne0 c =
+    let q = question (goal.at.returns-then-r-ne0 c).Start in
+    refused_early q (slices (goal.at.returns-then-r-ne0 c).Start) (stored_fine q.form q.handles) (three_for q) c.check-r.ensures c.if-r-ne0.true
+
+pub cells-size-requires : goal.cells-size-requires
+cells-size-requires c = omega (arith, (facts c).0)
+
+pub lacks-requires : goal.lacks-requires
+lacks-requires c = (c.cells-size.ensures.1, omega (arith, (facts (goal.at.lacks-requires c).Else-r-ne0).0))
+
+pub returns-then-lacks : goal.returns-then-lacks
+returns-then-lacks c =
+    let q = question (goal.at.returns-then-lacks c).Start in
+    refused_short q (slices (goal.at.returns-then-lacks c).Start) (stored_fine q.form q.handles) (three_for q) (passed (goal.at.returns-then-lacks c).Else-r-ne0)
+    (sym (told (goal.at.returns-then-lacks c).After-lacks) ∙ c.if-lacks.true) c.by.ensures
+
+pub read_curve-p-requires : goal.read_curve-p-requires
+read_curve-p-requires c = ready (goal.at.read_curve-p-requires c).Else-lacks
+
+pub residuals_of-three-requires : goal.residuals_of-three-requires
+residuals_of-three-requires c = omega (arith, (facts (goal.at.residuals_of-three-requires c).Else-r-ne0).0)
+
+pub answer-requires : goal.answer-requires
+answer-requires c =
+    let r = room (goal.at.answer-requires c).Else-lacks in
+    (omega (arith, (facts (goal.at.answer-requires c).Else-r-ne0).0), r.2, r.3)
+
+pub returns : goal.returns
+returns c =
+    let a = c.args in
+    let j = c.read_curve-p.ensures.0 in
+    let q = question (goal.at.returns c).Start in
+    concluded q (slices (goal.at.returns c).Start) (stored_fine a.form q.handles) c.read_curve-p.result.fine (three_for q) (in_order c.residuals_of-three.result)
+    (room_passed q (slices (goal.at.returns c).Start) (passed (goal.at.returns c).Else-r-ne0) (sym (told (goal.at.returns c).After-lacks) ∙ c.if-lacks.false)) j.verdict
+    (λ f. c.residuals_of-three.ensures (shape_for q) q.handles refl (j.read f)) c.read_curve-p.ensures.1.0 c.read_curve-p.ensures.1.1
+    c.answer.ensures.0 c.answer.ensures.1

@@ -1,0 +1,53 @@
+-- `span::counted` meets its contract: the knots below knot j are counted.
+use mathlib.Core.Path.{◌≡◌, refl, sym, ap, ◌∙◌}
+use mathlib.Core.Bool.{true, false}
+use mathlib.Core.Logic.{⊎_elim}
+use Prim.Native.Nat.{ℕ, ◌+◌, ◌-◌}
+use native.Mathlib.Omega.{arith}
+use borrow.Author.Tests.{not-true, not-false}
+use Rattle.span.specs.Counting.{reached}
+use Rattle.span.proofs.Spans.{reached_bounds, reached_next, opened}
+use Rattle.span.proofs.counted.Goals as goal
+
+pub returns-then-t-u : goal.returns-then-t-u
+returns-then-t-u c =
+    let a = c.args in
+    (rw (opened a.u.now a.n a.t (omega arith) (omega arith) (omega arith), c.if-t-u.true), (omega arith, omega arith))
+
+pub returns-then-t-u-2 : goal.returns-then-t-u-2
+returns-then-t-u-2 c =
+    let a = c.args in
+    (rw (opened a.u.now a.n a.t (omega arith) (omega arith) (omega arith), c.if-t-u.false, c.if-t-u-2.true), (omega arith, omega arith))
+
+pub loop-j-init : goal.loop-j-init
+unfolding reached
+loop-j-init c = (refl, omega arith, omega arith)
+
+pub overflow_add-k : goal.overflow_add-k
+overflow_add-k c =
+    let a = c.args in
+    let l = c.loop-j in
+    omega (arith, reached_bounds a.u.now a.t (l.j - 4), l.invariant.0)
+
+pub loop-j-preserved : goal.loop-j-preserved
+loop-j-preserved c =
+    let a = c.args in
+    let l = c.loop-j in (
+      ⊎_elim
+          (λ w. w.1 ∙ ap (λ (k : ℕ). k + 1) l.invariant.0 ∙ sym (reached_next a.u.now a.t l.j false l.invariant.1 (not-true _ w.0.taken)))
+          (λ w. w.1 ∙ l.invariant.0 ∙ sym (reached_next a.u.now a.t l.j true l.invariant.1 (not-false _ w.0.left)))
+          c.if-not-t-u.branch,
+      omega arith,
+      omega arith,
+    )
+
+pub returns : goal.returns
+returns c =
+    let a = c.args in
+    let l = c.loop-j in
+    let e : l.j ≡ a.n = omega arith in
+    let r = reached_bounds a.u.now a.t (a.n - 4) in
+    let k : l.k ≡ reached a.u.now a.t (a.n - 4) = l.invariant.0 ∙ ap (λ (j : ℕ). reached a.u.now a.t (j - 4)) e in (
+      k ∙ sym (opened a.u.now a.n a.t (omega arith) (omega arith) (omega arith) ∙ rw (c.if-t-u.false, c.if-t-u-2.false) refl),
+      (omega (arith, r.0, k), omega (arith, r.1, k)),
+    )

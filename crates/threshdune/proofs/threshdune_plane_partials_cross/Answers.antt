@@ -1,0 +1,10 @@
+-- `threshdune::threshdune_plane_partials_cross` meets its contract.
+use mathlib.Core.Path.{◌∙◌}
+use Rattle.partials.specs.Dual.{dual}
+use Rattle.plane.specs.Vector.{cross_v}
+use Rattle.threshdune.proofs.threshdune_plane_partials_cross.Goals as goal
+
+pub returns : goal.returns
+returns c =
+    rw (c.cross.ensures ∙ (λ i. cross_v dual (c.read_vector-x.ensures i) (c.read_vector-y.ensures i)))
+    at c.answer.ensures

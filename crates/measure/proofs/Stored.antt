@@ -20,7 +20,7 @@ use Rattle.curve.proofs.Recheck.{record_sound, length_is, length_finite}
 use Rattle.measure.specs.Measure.{length_answer}
 
 -- it is a double, from its type
-pub stored_double : (k : Curve) (vs : List Val) → shadow ((row the_type).own k vs) → T (fits binary64 k.length)
+pub stored_double : (k : Curve) (vs : List Val) → shadow ((row the_type).own_val k vs) → T (fits binary64 k.length)
 stored_double k vs h = let o = h.1.1 in subst T (sym o.1.1.0.1) tt
 
 module _ (c : Curve) where

@@ -23,7 +23,7 @@ use Rattle.curve.specs.contracts.Curve.{the_type}
 use Rattle.curve.specs.Record.{by_record}
 use Rattle.hull.proofs.Given.{AllDoubles, Doubles, of_field}
 
-pub typed : (k : Curve) (vs : List Val) → shadow ((row the_type).own k vs) → (t : Float) → T (fits binary64 t) → Doubles (by_record k).shape t
+pub typed : (k : Curve) (vs : List Val) → shadow ((row the_type).own_val k vs) → (t : Float) → T (fits binary64 t) → Doubles (by_record k).shape t
 typed k vs h t d =
     let o = h.1.1 in
     record {

@@ -36,14 +36,11 @@ pub record Doubles (c : Shape Float) (t : Float) : Type 0 where
 
 -- ---- what an array's type says of its entries, as an array and as a field of a struct
 
-entries : (l : List Float) (us : List Val) → shadow (each Float (FloatOf binary64).own_val l us) → AllDoubles l
-entries [] us h i g = absurd (omega arith)
-entries (x ∷ l) [] h i g = absurd h
-entries (x ∷ l) (u ∷ us) h zero g = subst T (sym h.0.1) tt
-entries (x ∷ l) (u ∷ us) h (suc i) g = entries l us h.1 i (omega arith)
-
-pub of_field : (l : List Float) (us : List Val) → shadow (each Float (FloatOf binary64).own_val (map (λ (x : Float). x) l) us) → AllDoubles l
-of_field l us h = entries l us (subst (λ (k : List Float). shadow (each Float (FloatOf binary64).own_val k us)) (map-id l) h)
+pub of_field : (l : List Float) (us : List Val) → shadow (each Float (FloatOf binary64).own_val l us) → AllDoubles l
+of_field [] us h i g = absurd (omega arith)
+of_field (x ∷ l) [] h i g = absurd h
+of_field (x ∷ l) (u ∷ us) h zero g = subst T (sym h.0.1) tt
+of_field (x ∷ l) (u ∷ us) h (suc i) g = of_field l us h.1 i (omega arith)
 
 -- ---- the coordinates of n control points, and a parameter in the domain
 

@@ -11,4 +11,4 @@ use Rattle.basis_partials.proofs.function_of.Given as goal
 abbrev pub invariant-loop-k : goal.invariant-loop-k
 invariant-loop-k l =
     (l.end ≡ l.n + 1)
-    × At 1 (l.n + 1) (order_turn dual l.ndu l.r) (record { l.coefs = start_coefs dual; l.ders = l.initial.ders }) l.k (record { l.coefs = view l.coefs; l.ders = l.ders })
+    × At 1 (l.n + 1) (order_turn dual l.ndu l.r) (record { coefs = start_coefs dual; ders = l.initial.ders }) l.k (record { coefs = view l.coefs; ders = l.ders })

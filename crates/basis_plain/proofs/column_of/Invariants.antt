@@ -6,4 +6,4 @@ use Rattle.basis.specs.Triangle.{column_turn}
 use Rattle.basis_plain.proofs.column_of.Given as goal
 
 abbrev pub invariant-loop-r : goal.invariant-loop-r
-invariant-loop-r l = At 0 l.j (column_turn plain l.left l.right l.j) (record { l.ndu = l.initial.ndu; l.saved = l.initial.saved }) l.r (record { l.ndu = l.ndu; l.saved = l.saved })
+invariant-loop-r l = At 0 l.j (column_turn plain l.left l.right l.j) (record { ndu = l.initial.ndu; saved = l.initial.saved }) l.r (record { ndu = l.ndu; saved = l.saved })

@@ -9,7 +9,7 @@ pub loop-r-init : goal.loop-r-init
 loop-r-init c = first (omega arith)
 
 pub loop-r-preserved : goal.loop-r-preserved
-loop-r-preserved c = next c.loop-r.invariant (omega arith) c.Function-of.ensures
+loop-r-preserved c = next c.loop-r.invariant (omega arith) c.function_of-next.ensures
 
 pub returns : goal.returns
 unfolding functions_of

@@ -7,4 +7,4 @@ use Rattle.basis.specs.Basis.{scale_turn}
 use Rattle.basis_plain.proofs.scaled_by.Given as goal
 
 abbrev pub invariant-loop-k : goal.invariant-loop-k
-invariant-loop-k l = (l.end ≡ l.n + 1) × At 1 (l.n + 1) (scale_turn plain) (record { l.ders = l.initial.ders; l.factor = l.initial.factor }) l.k (record { l.ders = l.ders; l.factor = l.factor })
+invariant-loop-k l = (l.end ≡ l.n + 1) × At 1 (l.n + 1) (scale_turn plain) (record { ders = l.initial.ders; factor = l.initial.factor }) l.k (record { ders = l.ders; factor = l.factor })

@@ -6,4 +6,4 @@ use Rattle.basis.specs.Triangle.{sides_turn}
 use Rattle.basis_plain.proofs.triangle_of.Given as goal
 
 abbrev pub invariant-loop-j : goal.invariant-loop-j
-invariant-loop-j l = At 1 4 (sides_turn plain l.u l.i l.t) (record { l.ndu = l.initial.ndu; l.left = l.initial.left; l.right = l.initial.right }) l.j (record { l.ndu = l.ndu; l.left = l.left; l.right = l.right })
+invariant-loop-j l = At 1 4 (sides_turn plain l.u l.i l.t) (record { ndu = l.initial.ndu; left = l.initial.left; right = l.initial.right }) l.j (record { ndu = l.ndu; left = l.left; right = l.right })

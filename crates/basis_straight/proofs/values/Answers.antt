@@ -5,6 +5,6 @@ use Rattle.basis_straight.proofs.values.Goals as goal
 
 pub returns : goal.returns
 returns c =
-    values_made dual c.args.t1 c.args.t
+    values_made dual c.args.w c.args.t
     c.sub-l1.ensures c.sub-l2.ensures c.sub-l3.ensures c.sub-r1.ensures c.sub-r2.ensures c.sub-r3.ensures c.cst-zero.ensures c.cst-one.ensures
     c.cell_of-a.ensures c.cell_of-b.ensures c.cell_of-c.ensures c.cell_of-d.ensures c.cell_of-e.ensures c.cell_of-f.ensures

@@ -51,7 +51,7 @@ returns c =
     let a = c.args in
     let n = 2 * c.build_with-b.result.curve.points in
     let put =
-    put_front c.in_turn-points.result n a.control.now c.in_turn-points.ensures.1
-    ∙ ap (λ (l : List Float). pasted l n a.control.now 0) c.in_turn-points.ensures.0 in
+    put_front c.in_turn-points.result n a.control.now c.in_turn-points.ensures.n_in_bounds
+    ∙ ap (λ (l : List Float). pasted l n a.control.now 0) c.in_turn-points.ensures.result_value in
     in_slices_lem a.form a.coords.now a.given a.knots.now a.work.now a.control.now a.knots-out.now
     (told (goal.at.returns c).After-either-short) c.build_with-b.ensures (c.put.ensures ∙ put) c.put-2.ensures

@@ -7,4 +7,4 @@ pub returns-then-out-lt28 : goal.returns-then-out-lt28
 returns-then-out-lt28 c = short _ _ _ c.if-out-lt28.true
 
 pub returns : goal.returns
-returns c = given _ _ _ c.if-out-lt28.false c.write.ensures.0 refl
+returns c = given _ _ _ c.if-out-lt28.false c.write.ensures.out_after refl

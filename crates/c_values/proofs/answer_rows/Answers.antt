@@ -15,4 +15,4 @@ returns-then-counts-lt20 c = short_counts _ _ _ c.if-out-lt560.false c.if-counts
 pub returns : goal.returns
 unfolding AnsweredB listed
 returns c =
-    given_all _ _ _ c.if-out-lt560.false c.if-counts-lt20.false c.write_rows.ensures.0 c.write_rows.ensures.1
+    given_all _ _ _ c.if-out-lt560.false c.if-counts-lt20.false c.write_rows.ensures.out_after c.write_rows.ensures.counts_after

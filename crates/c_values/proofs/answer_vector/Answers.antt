@@ -22,6 +22,6 @@ pub returns : goal.returns
 unfolding AnsweredV
 returns c =
     let a = c.args in
-    let first = one_written a.a.x (none_written a.out.now) refl c.write.ensures.1 c.write.ensures.0 in
-    let both = one_written a.a.y first refl c.write-2.ensures.1 c.write-2.ensures.0 in
+    let first = one_written a.a.x (none_written a.out.now) refl c.write.ensures.g_len c.write.ensures.out_after in
+    let both = one_written a.a.y first refl c.write-2.ensures.g_len c.write-2.ensures.out_after in
     given_all _ _ _ c.if-out-lt56.false c.if-counts-lt2.false (all_written both) (two_put a.counts.now _ _ c.if-counts-lt2.false)

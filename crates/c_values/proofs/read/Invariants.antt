@@ -6,4 +6,4 @@ use Rattle.c_values.specs.Crossing.{entry_of}
 use Rattle.c_values.proofs.read.Given as goal
 
 abbrev pub invariant-loop-k : goal.invariant-loop-k
-invariant-loop-k l = At 0 27 (λ i l. set l i (entry_of l.s (l.at + 1 + i))) l.initial.g l.k l.g
+invariant-loop-k it = At 0 27 (λ i l. set l i (entry_of it.s (it.at + 1 + i))) it.initial.g it.k it.g

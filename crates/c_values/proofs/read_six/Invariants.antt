@@ -6,4 +6,4 @@ use Rattle.c_values.specs.Crossing.{read_dv}
 use Rattle.c_values.proofs.read_six.Given as goal
 
 abbrev pub invariant-loop-i : goal.invariant-loop-i
-invariant-loop-i l = At 0 6 (λ k l. set l k (read_dv l.s (28 * k) (get_or l.ns k 0))) l.initial.w l.i l.w
+invariant-loop-i g = At 0 6 (λ k l. set l k (read_dv g.s (28 * k) (get_or g.ns k 0))) g.initial.w g.i g.w

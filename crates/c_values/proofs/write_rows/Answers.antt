@@ -32,7 +32,7 @@ loop-i-init c =
 
 pub bounds-counts-i : goal.bounds-counts-i
 bounds-counts-i c =
-    fits c.loop-i.invariant.1 c.requires.1 c.loop-i-test.true
+    fits c.loop-i.invariant.1 c.requires.fact_2 c.loop-i-test.true
 
 pub loop-i-smaller : goal.loop-i-smaller
 loop-i-smaller c = less c.loop-i.i c.loop-i-test.true
@@ -46,12 +46,12 @@ loop-i-preserved c =
       omega arith,
       search rules,
       next c.loop-i-test.true,
-      rw (listed_next i value) (one_written (value i) c.loop-i.invariant.3 place c.write.ensures.1 c.write.ensures.0),
-      count_put a.counts.now 20 i (λ j. (value j).n) c.requires.1 c.loop-i-test.true c.loop-i.invariant.4,
+      rw (listed_next i value) (one_written (value i) c.loop-i.invariant.3 place c.write.ensures.g_len c.write.ensures.out_after),
+      count_put a.counts.now 20 i (λ j. (value j).n) c.requires.fact_2 c.loop-i-test.true c.loop-i.invariant.4,
     )
 
 pub returns : goal.returns
 returns c =
     let l = c.loop-i in
     let e : l.i ≡ 20 = whole c.loop-i-test.false l.invariant.2 in
-    (all_listed 20 (value_of c.args.t1) (rw e at l.invariant.3), rw e at l.invariant.4)
+    (all_listed 20 (value_of c.args.rows) (rw e at l.invariant.3), rw e at l.invariant.4)

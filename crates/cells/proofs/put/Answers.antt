@@ -8,8 +8,10 @@ use Rattle.cells.proofs.put.Goals as goal
 pub returns-then-not-has_cell : goal.returns-then-not-has_cell
 unfolding doubles_with counts_with
 returns-then-not-has_cell c =
-    let no = sym c.has_cell.ensures ∙ not-true _ c.if-not-has_cell.true in
-    (rw no, rw no)
+    let no = sym c.has_cell.ensures ∙ not-true _ c.if-not-has_cell.true in record {
+      fact_1 = rw no;
+      fact_2 = rw no;
+    }
 
 pub put_cell-requires : goal.put_cell-requires
 put_cell-requires c =
@@ -19,5 +21,7 @@ put_cell-requires c =
 pub returns : goal.returns
 unfolding doubles_with counts_with
 returns c =
-    let yes = sym c.has_cell.ensures ∙ not-false _ c.if-not-has_cell.false in
-    (rw yes c.put_cell.ensures.0, rw yes c.put_cell.ensures.1)
+    let yes = sym c.has_cell.ensures ∙ not-false _ c.if-not-has_cell.false in record {
+      fact_1 = rw yes c.put_cell.ensures.0;
+      fact_2 = rw yes c.put_cell.ensures.1;
+    }

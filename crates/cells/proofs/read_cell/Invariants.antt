@@ -7,4 +7,4 @@ use Rattle.meaning.proofs.For.{At}
 use Rattle.cells.proofs.read_cell.Given as goal
 
 abbrev pub invariant-loop-j : goal.invariant-loop-j
-invariant-loop-j l = At 0 l.n (λ i l. set l i (get_or l.t (suc i) nan)) l.initial.g l.j l.g × (length l.g ≡ 27)
+invariant-loop-j s = At 0 s.n (λ i l. set l i (get_or s.t (suc i) nan)) s.initial.g s.j s.g × (length s.g ≡ 27)

@@ -17,9 +17,9 @@ use Rattle.closest.proofs.closest.Goals.{After-check_with-r, Else-r-ne0}
 -- what the check tells
 known : (c : After-check_with-r) → let a = c.args in
     c.check_with-r.result ≡ first_of (with11 (either_wild a.px a.py) (by_record a.t1).rules)
-known c = c.check_with-r.ensures ∙ ap (λ (w : Bool). first_of (with11 w (by_record c.args.t1).rules)) c.either_wild-wild.ensures
+known c = c.check_with-r.ensures ∙ ap (λ (w : Bool). first_of (with11 w (by_record c.args.c).rules)) c.either_wild-wild.ensures
 
-passed : (c : Else-r-ne0) → Passed (by_record c.args.t1).rules
+passed : (c : Else-r-ne0) → Passed (by_record c.args.c).rules
 passed c =
     let a = c.args in
     (with_passed (either_wild a.px a.py) _ (record_sound a.t1).counted (number_of (sym (known c.before.before)) ∙ c.if-r-ne0.false)).1
@@ -30,9 +30,9 @@ returns-then-r-ne0 c = tells (refused_told _ _ (known (goal.at.returns-then-r-ne
 
 pub search-requires : goal.search-requires
 search-requires c =
-    (record_sound c.args.t1).knots (passed (goal.at.search-requires c).Else-r-ne0)
+    (record_sound c.args.c).knots (passed (goal.at.search-requires c).Else-r-ne0)
 
 pub returns : goal.returns
 returns c =
-    let r = c.args.t1 in
+    let r = c.args.c in
     c.search.ensures ∙ search_past (by_record r) (record_sound r).counted (passed (goal.at.returns c).Else-r-ne0) _

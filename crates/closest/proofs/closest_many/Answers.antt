@@ -7,7 +7,7 @@ use Rattle.closest.proofs.Each.{odd_points, curve_refused, room_refused, room_fo
 use Rattle.closest.proofs.closest_many.Goals as goal
 use Rattle.closest.proofs.closest_many.Goals.{Else-r-ne0}
 
-passed : (c : Else-r-ne0) → Passed (by_record c.args.t1).rules
+passed : (c : Else-r-ne0) → Passed (by_record c.args.c).rules
 passed c = number_of (sym c.check-r.ensures) ∙ c.if-r-ne0.false
 
 pub returns-then-points-ne0 : goal.returns-then-points-ne0
@@ -29,11 +29,11 @@ returns-then-q-ne0 c =
 
 pub search_each-requires : goal.search_each-requires
 search_each-requires c =
-    let a = c.args in (
-      (record_sound a.t1).knots (passed (goal.at.search_each-requires c).Else-r-ne0),
-      room_for (by_record a.t1) (record_sound a.t1).counted a.points.now a.out.now a.refusals.now c.if-points-ne0.false (passed (goal.at.search_each-requires c).Else-r-ne0)
-          c.room-q.ensures c.if-q-ne0.false,
-    )
+    let a = c.args in record {
+      fact_1 = (record_sound a.t1).knots (passed (goal.at.search_each-requires c).Else-r-ne0);
+      fact_2 = room_for (by_record a.t1) (record_sound a.t1).counted a.points.now a.out.now a.refusals.now c.if-points-ne0.false (passed (goal.at.search_each-requires c).Else-r-ne0)
+          c.room-q.ensures c.if-q-ne0.false;
+    }
 
 pub returns : goal.returns
 returns c =

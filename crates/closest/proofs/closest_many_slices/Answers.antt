@@ -31,11 +31,11 @@ returns-then-q-ne0 c =
 
 pub search_each-requires : goal.search_each-requires
 search_each-requires c =
-    let a = c.args in (
-      rw c.in_rooms-made.ensures (slices_trusted a.coords.now a.knots.now (passed (goal.at.search_each-requires c).Else-r-ne0)),
-      room_for (in_slices a.coords.now a.knots.now) (slices_sound _ _).counted a.points.now a.out.now a.refusals.now
-          c.if-points-ne0.false (passed (goal.at.search_each-requires c).Else-r-ne0) c.room-q.ensures c.if-q-ne0.false,
-    )
+    let a = c.args in record {
+      fact_1 = rw c.in_rooms-made.ensures (slices_trusted a.coords.now a.knots.now (passed (goal.at.search_each-requires c).Else-r-ne0));
+      fact_2 = room_for (in_slices a.coords.now a.knots.now) (slices_sound _ _).counted a.points.now a.out.now a.refusals.now
+          c.if-points-ne0.false (passed (goal.at.search_each-requires c).Else-r-ne0) c.room-q.ensures c.if-q-ne0.false;
+    }
 
 pub returns : goal.returns
 returns c =

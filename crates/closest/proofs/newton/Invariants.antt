@@ -6,7 +6,7 @@ use Rattle.closest.proofs.newton.Given as goal
 
 abbrev pub invariant-loop-s : goal.invariant-loop-s
 invariant-loop-s l =
-    Rest unfinished (round_of (record { l.n = l.n; l.xs = l.xs; l.ys = l.ys; knots = l.u }) (view l.p)) (λ x. x.left) l.initial.s l.s
+    Rest unfinished (round_of (record { n = l.n; xs = l.xs; ys = l.ys; knots = l.u }) (view l.p)) (λ x. x.left) l.initial.s l.s
 
 abbrev pub decreases-loop-s : goal.decreases-loop-s
 decreases-loop-s l = l.s.left

@@ -20,7 +20,7 @@ float_from_bits-infinite c = tt
 
 -- the square, and whether it lies past the limit
 squared : (c : After-both) → c.square-square.result ≡ square_at (shape c.before.before.before.before) (view c.args.p) c.args.t
-squared c = square_is _ c.pre (view c.args.p) c.args.t c.args.i c.point_near-c.ensures c.square-square.ensures
+squared c = square_is _ c.requires (view c.args.p) c.args.t c.args.i c.point_near-c.ensures c.square-square.ensures
 
 past : (c : After-both) → c.both.result ≡ (le c.args.b.limit c.square-square.result && lt c.square-square.result (inf false))
 unfolding of_bits
@@ -30,7 +30,7 @@ past c = c.both.ensures
 measured : (c : After-both-fine)
     → c.distance-d.result ≡ distance_at (shape c.before.before.before.before.before.before.before.before) (view c.args.p) c.args.t
 measured c =
-    distance_is _ c.pre (view c.args.p) c.args.t c.args.i c.point_near-c.ensures c.distance-d.ensures
+    distance_is _ c.requires (view c.args.p) c.args.t c.args.i c.point_near-c.ensures c.distance-d.ensures
 
 fine : (c : After-both-fine) → c.both-fine.result ≡ (c.args.b.fine && finite c.distance-d.result)
 fine c = c.both-fine.ensures ∙ ap (λ (f : Bool). c.args.b.fine && f) c.is_finite.ensures

@@ -9,4 +9,4 @@ use Rattle.closest.proofs.sample_all.Given as goal
 
 abbrev pub invariant-loop-i : goal.invariant-loop-i
 invariant-loop-i l =
-    (l.pairs ≡ l.n + 3) × At 0 (l.n + 3) (λ k x. through (sampled (record { l.n = l.n; l.xs = l.xs; l.ys = l.ys; knots = l.u }) (view l.p)) (pair_samples l.u 16 k) x) l.initial.best l.i l.best
+    (l.pairs ≡ l.n + 3) × At 0 (l.n + 3) (λ k x. through (sampled (record { n = l.n; xs = l.xs; ys = l.ys; knots = l.u }) (view l.p)) (pair_samples l.u 16 k) x) l.initial.best l.i l.best

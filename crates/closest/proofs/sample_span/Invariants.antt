@@ -10,4 +10,4 @@ use Rattle.closest.proofs.sample_span.Given as goal
 
 abbrev pub invariant-loop-s : goal.invariant-loop-s
 invariant-loop-s l =
-    At 0 16 (λ k x. sampled (record { l.n = l.n; l.xs = l.xs; l.ys = l.ys; knots = l.u }) (view l.p) x (sample_at (at1 plain l.u l.i) (at1 plain l.u (l.i + 1)) 16 k)) l.initial.best l.s l.best
+    At 0 16 (λ k x. sampled (record { n = l.n; xs = l.xs; ys = l.ys; knots = l.u }) (view l.p) x (sample_at (at1 plain l.u l.i) (at1 plain l.u (l.i + 1)) 16 k)) l.initial.best l.s l.best

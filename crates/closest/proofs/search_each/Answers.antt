@@ -14,12 +14,14 @@ search-found-requires c = search rules
 
 pub answer_at-requires : goal.answer_at-requires
 answer_at-requires c =
-    let room = c.requires.1 in
-    (turned_place room c.loop-k.invariant c.loop-k-test.true, turned_number room c.loop-k.invariant c.loop-k-test.true)
+    let room = c.requires.fact_2 in record {
+      fact_1 = turned_place room c.loop-k.invariant c.loop-k-test.true;
+      fact_2 = turned_number room c.loop-k.invariant c.loop-k-test.true;
+    }
 
 pub loop-k-preserved : goal.loop-k-preserved
 loop-k-preserved c =
-    turned_next c.requires.1 c.loop-k.invariant c.loop-k-test.true (told c.search-found.result) c.search-found.ensures
+    turned_next c.requires.fact_2 c.loop-k.invariant c.loop-k-test.true (told c.search-found.result) c.search-found.ensures
     c.answer_at.ensures
 
 pub returns : goal.returns

@@ -9,6 +9,6 @@ use Rattle.evaluate.specs.Point.{weighted}
 use Rattle.evaluate.proofs.combine.Given as goal
 
 abbrev pub invariant-loop-k : goal.invariant-loop-k
-invariant-loop-k l =
-    (l.end ≡ l.nd + 1)
-    × At 0 (l.nd + 1) (λ m l. set (set l (2 * m) (weighted plain l.xs 3 (get_or l.ders m []))) (2 * m + 1) (weighted plain l.ys 3 (get_or l.ders m []))) l.initial.out l.k l.out
+invariant-loop-k s =
+    (s.end ≡ s.nd + 1)
+    × At 0 (s.nd + 1) (λ m l. set (set l (2 * m) (weighted plain s.xs 3 (get_or s.ders m []))) (2 * m + 1) (weighted plain s.ys 3 (get_or s.ders m []))) s.initial.out s.k s.out

@@ -14,4 +14,4 @@ returns c =
     ∙ rw (c.four-y.ensures, c.four-x.ensures)
     (ap (placed plain (a.nd + 1))
     (on_span_is plain _ (record { n = a.n; xs = a.xs.now; ys = a.ys.now; knots = a.u.now }) a.t a.nd a.u.now at at _ _
-    c.span-i.ensures.0 refl (weighted-row plain a.xs.now at) (weighted-row plain a.ys.now at)))
+    c.span-i.ensures.fact_1 refl (weighted-row plain a.xs.now at) (weighted-row plain a.ys.now at)))

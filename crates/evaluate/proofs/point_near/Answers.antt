@@ -13,7 +13,7 @@ shape c = record { n = c.args.n; xs = c.args.xs.now; ys = c.args.ys.now; knots =
 
 -- it is the index of a span
 index : (c : Then-within) → (3 ≤ c.args.i) × (c.args.i ≤ 65)
-index c = c.within.ensures.1 c.if-within.true
+index c = c.within.ensures.fact_2 c.if-within.true
 
 pub overflow_sub-i : goal.overflow_sub-i
 overflow_sub-i c = omega (arith, index (goal.at.overflow_sub-i c).Then-within)
@@ -30,8 +30,8 @@ four-y-requires c = omega (arith, index (goal.at.four-y-requires c).Then-within)
 pub returns-then-within : goal.returns-then-within
 returns-then-within c =
     c.point_on.ensures
-    ∙ rw (c.four-y.ensures, c.four-x.ensures) (near_span (shape (goal.at.returns-then-within c).Start) c.args.t c.args.i (sym c.within.ensures.0 ∙ c.if-within.true))
+    ∙ rw (c.four-y.ensures, c.four-x.ensures) (near_span (shape (goal.at.returns-then-within c).Start) c.args.t c.args.i (sym c.within.ensures.fact_1 ∙ c.if-within.true))
 
 pub returns : goal.returns
 returns c =
-    near_other (shape (goal.at.returns c).Start) c.args.t c.args.i (sym c.within.ensures.0 ∙ c.if-within.false) c.orders-at.ensures
+    near_other (shape (goal.at.returns c).Start) c.args.t c.args.i (sym c.within.ensures.fact_1 ∙ c.if-within.false) c.orders-at.ensures

@@ -7,4 +7,4 @@ use Rattle.meaning.proofs.For.{At}
 use Rattle.evaluate.proofs.window.Given as goal
 
 abbrev pub invariant-loop-j : goal.invariant-loop-j
-invariant-loop-j l = At 0 6 (λ k l. set l (k + 1) (at1 plain l.u (l.i - 2 + k))) l.initial.w l.j l.w
+invariant-loop-j s = At 0 6 (λ k l. set l (k + 1) (at1 plain s.u (s.i - 2 + k))) s.initial.w s.j s.w

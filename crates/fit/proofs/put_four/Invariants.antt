@@ -8,4 +8,4 @@ use Rattle.meaning.proofs.For.{At}
 use Rattle.fit.proofs.put_four.Given as goal
 
 abbrev pub invariant-loop-j : goal.invariant-loop-j
-invariant-loop-j l = At 0 4 (λ i l. set l (l.at + i) (at1 plain l.four i)) l.initial.t l.j l.t × (length l.t ≡ length l.initial.t)
+invariant-loop-j s = At 0 4 (λ i l. set l (s.at + i) (at1 plain s.four i)) s.initial.t s.j s.t × (length s.t ≡ length s.initial.t)

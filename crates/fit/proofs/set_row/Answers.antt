@@ -14,5 +14,5 @@ unfolding found_row row_of row_at
 returns c =
     let f = c.fill_row.ensures in
     let b = c.basis-ders.ensures in
-    let i = c.span-i.ensures.0 in
+    let i = c.span-i.ensures.fact_1 in
     rw (b, i) at f

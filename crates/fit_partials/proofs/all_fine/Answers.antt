@@ -19,6 +19,6 @@ loop-j-preserved c =
 pub returns : goal.returns
 returns c =
     let l = c.loop-j in
-    let long : length c.args.t1 ≡ 18 = omega arith in
-    let e : l.j ≡ length c.args.t1 = omega (arith, long, l.invariant.1) in
-    rw e at l.invariant.0 ∙ sym (fine-each dual c.args.t1)
+    let long : length c.args.k ≡ 18 = omega arith in
+    let e : l.j ≡ length c.args.k = omega (arith, long, l.invariant.1) in
+    rw e at l.invariant.0 ∙ sym (fine-each dual c.args.k)

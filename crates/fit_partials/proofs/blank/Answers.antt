@@ -19,7 +19,7 @@ loop-k-preserved c =
     let r = room_part a.c a.at a.n (a.at + l.k) 1 {w' = l.w} {ns' = l.ns} c.requires (omega (arith, c.loop-k-test.true)) l.invariant.0.doubles l.invariant.0.bytes in
     let d = c.cst-zero.result in
     let one = laid_one a.c _ _ (a.at + l.k) d (room_there a.c (a.at + l.k) _ _ r)
-    (subst (Normal a.c) (sym c.cst-zero.ensures) (zero_normal a.c r.narrow)) c.put.ensures.0 c.put.ensures.1 in
+    (subst (Normal a.c) (sym c.cst-zero.ensures) (zero_normal a.c r.narrow)) c.put.ensures.fact_1 c.put.ensures.fact_2 in
     (laid_join a.c a.at l.k 1 (λ j. cst_dv zero64) (λ j. d) l.invariant.0 one (λ j h. c.cst-zero.ensures), omega arith)
 
 pub returns : goal.returns

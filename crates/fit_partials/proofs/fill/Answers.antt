@@ -10,75 +10,65 @@ use Rattle.fit_partials.proofs.Numbers.{window_tidy}
 use Rattle.fit_partials.proofs.Laid.{room_part, laid_start, laid-row}
 use Rattle.fit_partials.proofs.Rows.{found_shaped, found-verdict, row-found}
 use Rattle.fit_partials.proofs.fill.Goals as goal
+use Rattle.fit_partials.proofs.fill.Goals.{After-span-i}
 
 pub loop-r-init : goal.loop-r-init
 loop-r-init c = (laid_start _ _ _ _ _, every-none _, omega arith)
 
 pub station-requires : goal.station-requires
-station-requires c = let p = c.requires.0 in (p.0, p.1, c.loop-r-test.true)
+station-requires c = let p = c.requires.fact_1 in (p.0, p.1, c.loop-r-test.true)
 
 pub bounds-p-station : goal.bounds-p-station
-bounds-p-station c = omega (arith, c.station.ensures.1, c.requires.0.1)
+bounds-p-station c = omega (arith, c.station.ensures.1, c.requires.fact_1.1)
 
--- where the span of the row's parameter is found, before its knots are read
-abbrev span-of : tie.After-t52 invariant-loop decreases-loop → tie.After-span invariant-loop decreases-loop
-span-of c = c.before.before.before.before.before.before
+high : (c : After-span-i) → c.span-i.result ≤ c.args.n + 1
+high c = let p = c.requires.fact_1 in omega (arith, c.span-i.ensures.fact_2.1.1.1 (omega (arith, p.0)))
 
-abbrev start_of : tie.After-span invariant-loop decreases-loop → tie.Start invariant-loop decreases-loop
-start_of c = c.before.before.before.before.before.before.before.before.before
-
-high : (c : tie.After-span invariant-loop decreases-loop) → c.span.result ≤ (start_of c).args.n + 1
-high c = let p = (start_of c).requires.0 in omega (arith, c.span.ensures.1.1.1.1 (omega (arith, p.0)))
-
-inside : (c : tie.After-span invariant-loop decreases-loop) → c.span.result ≤ 13
-inside c = omega (arith, high c, (start_of c).requires.0.1)
+inside : (c : After-span-i) → c.span-i.result ≤ 13
+inside c = omega (arith, high c, c.requires.fact_1.1)
 
 pub bounds-k-a : goal.bounds-k-a
 bounds-k-a c = omega (arith, inside c)
 
 pub bounds-k-a-in-loop-r : goal.bounds-k-a-in-loop-r
-bounds-k-a-in-loop-r c = omega (arith, inside c.before)
+bounds-k-a-in-loop-r c = omega (arith, inside (goal.at.bounds-k-a-in-loop-r c).After-span-i)
 
 pub bounds-k-a-in-loop-r-2 : goal.bounds-k-a-in-loop-r-2
-bounds-k-a-in-loop-r-2 c = omega (arith, inside c.before.before)
+bounds-k-a-in-loop-r-2 c = omega (arith, inside (goal.at.bounds-k-a-in-loop-r-2 c).After-span-i)
 
 pub bounds-k-a-in-loop-r-3 : goal.bounds-k-a-in-loop-r-3
-bounds-k-a-in-loop-r-3 c = omega (arith, inside c.before.before.before)
+bounds-k-a-in-loop-r-3 c = omega (arith, inside (goal.at.bounds-k-a-in-loop-r-3 c).After-span-i)
 
 pub bounds-k-a-in-loop-r-4 : goal.bounds-k-a-in-loop-r-4
-bounds-k-a-in-loop-r-4 c = omega (arith, inside c.before.before.before.before)
+bounds-k-a-in-loop-r-4 c = omega (arith, inside (goal.at.bounds-k-a-in-loop-r-4 c).After-span-i)
 
 pub bounds-k-a-in-loop-r-5 : goal.bounds-k-a-in-loop-r-5
-bounds-k-a-in-loop-r-5 c = omega (arith, inside c.before.before.before.before.before)
+bounds-k-a-in-loop-r-5 c = omega (arith, inside (goal.at.bounds-k-a-in-loop-r-5 c).After-span-i)
 
 pub system_row-requires : goal.system_row-requires
 system_row-requires c =
-    let i = span-of c.before.before in
-    let l = i.before.before.before.before.before.loop in
-    let s = start_of i in
-    let a = s.args in
-    let p = s.pre.0 in
-    let ready = s.pre.1 in
-    let t = i.before.before.before.before.loop-test.taken in
+    let l = c.loop-r in
+    let a = c.args in
+    let p = c.requires.fact_1 in
+    let ready = c.requires.fact_2 in
+    let t = c.loop-r-test.true in
     let s4 = a.n + 2 + 2 in
     let e = row_le l.r (a.n + 2) s4 t in
     let room = room_part a.c 0 ((a.n + 2) * s4) (l.r * s4) s4 p.3 (omega (arith, e)) l.inv.0.doubles l.inv.0.bytes in
-    let station = i.before.before.before.station.ensures in (
-      (p.0, p.1, t, p.2, ready.points, i.span.ensures.1.1.0, omega (arith, high i), room),
-      (window_tidy a.c a.t4 i.span.result ready.knots, ready.parameters i.before.before.before.station.result station.1),
-    )
+    let station = c.station.ensures in record {
+      fact_1 = (p.0, p.1, t, p.2, ready.points, c.span-i.ensures.fact_2.1.0, omega (arith, high (goal.at.system_row-requires c).After-span-i), room);
+      fact_2 = (window_tidy a.c a.t4 c.span-i.result ready.knots, ready.parameters c.station.result station.1);
+    }
 
 pub loop-r-preserved : goal.loop-r-preserved
 loop-r-preserved c =
-    let i = span-of call.before.before.before in
-    let l = i.before.before.before.before.before.loop in
-    let s = start_of i in
-    let a = s.args in
-    let t = i.before.before.before.before.loop-test.taken in
-    let station = i.before.before.before.station.ensures in
-    let span = i.span.ensures in
+    let l = c.loop-r in
+    let a = c.args in
+    let t = c.loop-r-test.true in
+    let station = c.station.ensures in
+    let span = c.span-i.ensures in
     let row = row-found a.c a.n l.r a.t4 a.u.now a.t6 a.q.now _ t span.0 span.1.1.0 span.1.1.1.0 refl
-    (ap (at1 dual a.t6) station.0) s.pre.1 c.system_row.ensures in (
+    (ap (at1 dual a.t6) station.0) c.requires.fact_2 c.system_row.ensures in (
       laid-row a.c (a.n + 2) (a.n + 2 + 2) l.r _ (found_shaped _ _ _ _ _) t l.inv.0 row.0,
       every_next _ l.r l.inv.1 row.1 c.both-fine.ensures,
       omega arith,
@@ -88,5 +78,7 @@ pub returns : goal.returns
 returns c =
     let l = c.loop-r in
     let n = c.args.n in
-    let e : l.r ≡ n + 2 = omega arith in
-    (rw e at l.invariant.0, rw e at l.invariant.1 ∙ found-verdict _ _ _ _ n)
+    let e : l.r ≡ n + 2 = omega arith in record {
+      fact_1 = rw e at l.invariant.0;
+      fact_2 = rw e at l.invariant.1 ∙ found-verdict _ _ _ _ n;
+    }

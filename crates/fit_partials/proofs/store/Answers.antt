@@ -15,9 +15,9 @@ pub returns : goal.returns
 unfolding every
 returns c =
     let a = c.args in
-    let r = c.requires.0 in
+    let r = c.requires.fact_1 in
     record {
       laid = laid_one a.c a.w.now a.ns.now a.k a.v (room_there a.c a.k a.w.now a.ns.now r)
-          (tidy_normal a.c a.v r.narrow (long (goal.at.returns c).Start) c.requires.1) c.put.ensures.0 c.put.ensures.1;
+          (tidy_normal a.c a.v r.narrow (long (goal.at.returns c).Start) c.requires.fact_2) c.put.ensures.fact_1 c.put.ensures.fact_2;
       judged = c.is_fine.ensures;
     }

@@ -14,8 +14,10 @@ pub store-requires : goal.store-requires
 store-requires c =
     let l = c.loop-k in
     let a = c.args in
-    let t = c.loop-k-test.true in
-    (room_part a.c a.at 4 (a.at + l.k) 1 c.requires.0 (omega (arith, t)) l.invariant.0.laid.doubles l.invariant.0.laid.bytes, c.requires.1 l.k)
+    let t = c.loop-k-test.true in record {
+      fact_1 = room_part a.c a.at 4 (a.at + l.k) 1 c.requires.fact_1 (omega (arith, t)) l.invariant.0.laid.doubles l.invariant.0.laid.bytes;
+      fact_2 = c.requires.fact_2 l.k;
+    }
 
 pub loop-k-preserved : goal.loop-k-preserved
 loop-k-preserved c =

@@ -9,14 +9,18 @@ use Rattle.fit_partials.proofs.store_sides.Goals as goal
 
 pub store-x-requires : goal.store-x-requires
 store-x-requires c =
-    let a = c.args in
-    (room_part a.c a.at 2 a.at 1 c.requires.0 (omega arith) refl refl, c.requires.1.0)
+    let a = c.args in record {
+      fact_1 = room_part a.c a.at 2 a.at 1 c.requires.fact_1 (omega arith) refl refl;
+      fact_2 = c.requires.fact_2.0;
+    }
 
 pub store-y-requires : goal.store-y-requires
 store-y-requires c =
     let a = c.args in
-    let done = c.store-x.ensures.laid in
-    (room_part a.c a.at 2 (a.at + 1) 1 c.requires.0 (omega arith) done.doubles done.bytes, c.requires.1.1)
+    let done = c.store-x.ensures.laid in record {
+      fact_1 = room_part a.c a.at 2 (a.at + 1) 1 c.requires.fact_1 (omega arith) done.doubles done.bytes;
+      fact_2 = c.requires.fact_2.1;
+    }
 
 pub returns : goal.returns
 returns c =

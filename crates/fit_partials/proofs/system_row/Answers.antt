@@ -14,7 +14,7 @@ use Rattle.fit_partials.proofs.system_row.Goals as goal
 use Rattle.fit_partials.proofs.system_row.Goals.{Then-of_point}
 
 pub overflow_mul-at : goal.overflow_mul-at
-overflow_mul-at c = omega (arith, c.requires.0.7.few)
+overflow_mul-at c = omega (arith, c.requires.fact_1.7.few)
 
 -- where the row is one of a point
 inner : (c : Then-of_point) → let a = c.args in (a.r ≡ 0 → ⊥) × (a.r ≤ a.n)
@@ -24,21 +24,21 @@ pub overflow_sub-r : goal.overflow_sub-r
 overflow_sub-r c = omega (arith, inner (goal.at.overflow_sub-r c).Then-of_point)
 
 pub point-b-requires : goal.point-b-requires
-point-b-requires c = omega (arith, inner (goal.at.point-b-requires c).Then-of_point, c.requires.0.3)
+point-b-requires c = omega (arith, inner (goal.at.point-b-requires c).Then-of_point, c.requires.fact_1.3)
 
 pub fill_row-requires : goal.fill_row-requires
 fill_row-requires c =
     let a = c.args in
-    let p = c.pre.0 in
+    let p = c.requires.fact_1 in
     let point = c.point-b.ensures in
-    let tidy = variables_tidy a.c a.q.now p.4 in (
-      (p.5, p.6, omega (arith, p.1), p.7),
-      (
-        four_tidy a.c a.six a.t 0 c.pre.1.0 c.pre.1.1 c.values-four.ensures,
+    let tidy = variables_tidy a.c a.q.now p.4 in record {
+      fact_1 = (p.5, p.6, omega (arith, p.1), p.7);
+      fact_2 = (
+        four_tidy a.c a.six a.t 0 c.requires.fact_2.0 c.requires.fact_2.1 c.values-four.ensures,
         subst (λ (x : Vector Dv). Tidy a.c x.x) (sym point) (tidy _),
         subst (λ (x : Vector Dv). Tidy a.c x.y) (sym point) (tidy _),
-      ),
-    )
+      );
+    }
 
 pub returns-then-of_point : goal.returns-then-of_point
 returns-then-of_point c =
@@ -50,11 +50,11 @@ returns-then-of_point c =
 pub fill_row-requires-2 : goal.fill_row-requires-2
 fill_row-requires-2 c =
     let a = c.args in
-    let p = c.pre.0 in
-    let zero = subst (Tidy a.c) (sym c.cst-zero.ensures) (cst_tidy _ zero64) in (
-      (p.5, p.6, omega (arith, p.1), p.7),
-      (four_tidy a.c a.six a.t 2 c.pre.1.0 c.pre.1.1 c.second-four.ensures, zero, zero),
-    )
+    let p = c.requires.fact_1 in
+    let zero = subst (Tidy a.c) (sym c.cst-zero.ensures) (cst_tidy _ zero64) in record {
+      fact_1 = (p.5, p.6, omega (arith, p.1), p.7);
+      fact_2 = (four_tidy a.c a.six a.t 2 c.requires.fact_2.0 c.requires.fact_2.1 c.second-four.ensures, zero, zero);
+    }
 
 pub returns : goal.returns
 returns c =

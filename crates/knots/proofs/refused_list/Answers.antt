@@ -17,8 +17,11 @@ returns-then-first_unfit-knots c =
 
 pub refused_ends-requires : goal.refused_ends-requires
 refused_ends-requires c =
-    let ks = c.args.knots.now in
-    (c.requires, (c.if-knots-n.false, told_none (unfit ks) 0 (length ks) c.first_unfit.ensures c.if-first_unfit-knots.false))
+    let ks = c.args.knots.now in record {
+      fact_1 = c.requires;
+      fact_2 = c.if-knots-n.false;
+      fact_3 = told_none (unfit ks) 0 (length ks) c.first_unfit.ensures c.if-first_unfit-knots.false;
+    }
 
 pub returns : goal.returns
 returns c = c.refused_ends.ensures

@@ -14,15 +14,15 @@ pub returns-then-r-ne0 : goal.returns-then-r-ne0
 unfolding domain_answer
 returns-then-r-ne0 c = tells (left-told _ c.check-r.ensures c.if-r-ne0.true)
 
-abbrev passed : (c : Else-r-ne0) → Passed (by_record c.args.t1).rules
+abbrev passed : (c : Else-r-ne0) → Passed (by_record c.args.c).rules
 passed c = number_of (sym c.check-r.ensures) ∙ c.if-r-ne0.false
 
 pub answer_domain-requires : goal.answer_domain-requires
 answer_domain-requires c =
-    let r = c.args.t1 in
+    let r = c.args.c in
     knots_reach r.knots r.points ((record_sound r).knots (passed (goal.at.answer_domain-requires c).Else-r-ne0))
 
 pub returns : goal.returns
 unfolding domain_answer
 returns c =
-    tells (passed_told (by_record c.args.t1).rules (record_sound c.args.t1).counted (passed (goal.at.returns c).Else-r-ne0) (record { is = c.answer_domain.ensures }))
+    tells (passed_told (by_record c.args.c).rules (record_sound c.args.c).counted (passed (goal.at.returns c).Else-r-ne0) (record { is = c.answer_domain.ensures }))

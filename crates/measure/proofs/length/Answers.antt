@@ -5,8 +5,8 @@ use Rattle.measure.proofs.Stored.{stored_double, length_refused, length-told}
 use Rattle.measure.proofs.length.Goals as goal
 
 pub returns-then-r-ne0 : goal.returns-then-r-ne0
-returns-then-r-ne0 c = length_refused c.args.t1 c.check-r.ensures c.if-r-ne0.true
+returns-then-r-ne0 c = length_refused c.args.c c.check-r.ensures c.if-r-ne0.true
 
 pub returns : goal.returns
 returns c =
-    length-told c.args.t1 (stored_double c.args.t1 _ c.good.0) (number_of (sym c.check-r.ensures) ∙ c.if-r-ne0.false)
+    length-told c.args.c (stored_double c.args.c _ c.well_formed.0) (number_of (sym c.check-r.ensures) ∙ c.if-r-ne0.false)

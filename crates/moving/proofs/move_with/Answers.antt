@@ -22,7 +22,7 @@ use Rattle.moving.proofs.move_with.Goals.{After-check_with-r, After-is_finite}
 known : (k : After-check_with-r) → let a = k.args in k.check_with-r.result ≡ first_of (checks a.t1 a.x a.y)
 known k =
     k.check_with-r.ensures
-    ∙ ap (λ (w : Bool). first_of (with11 w (by_record k.args.t1).rules)) k.either_wild-wild.ensures
+    ∙ ap (λ (w : Bool). first_of (with11 w (by_record k.args.c).rules)) k.either_wild-wild.ensures
 
 pub returns-then-r-ne0 : goal.returns-then-r-ne0
 returns-then-r-ne0 c =

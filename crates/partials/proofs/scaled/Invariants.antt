@@ -7,4 +7,4 @@ use Rattle.partials.specs.Dual.{part_at}
 use Rattle.partials.proofs.scaled.Given as goal
 
 abbrev pub invariant-loop-k : goal.invariant-loop-k
-invariant-loop-k l = At 0 l.n (λ i l. set l i (mul binary64 (part_at l.a l.n i) l.f)) l.initial.g l.k l.g
+invariant-loop-k s = At 0 s.n (λ i l. set l i (mul binary64 (part_at s.a s.n i) s.f)) s.initial.g s.k s.g

@@ -7,5 +7,5 @@ use Rattle.partials.specs.Rule.{rule_of}
 use Rattle.partials.proofs.zipped.Given as goal
 
 abbrev pub invariant-loop-k : goal.invariant-loop-k
-invariant-loop-k l =
-    At 0 l.n (λ i l. set l i (rule_of l.rule l.av l.bv (part_at l.ag l.an i) (part_at l.bg l.bn i))) l.initial.g l.k l.g
+invariant-loop-k s =
+    At 0 s.n (λ i l. set l i (rule_of s.rule s.av s.bv (part_at s.ag s.an i) (part_at s.bg s.bn i))) s.initial.g s.k s.g

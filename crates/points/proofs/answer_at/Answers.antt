@@ -24,7 +24,7 @@ bounds-refusals-k c = omega arith
 pub returns : goal.returns
 returns c =
     let a = c.args in
-    let call = c.answer_point-r.ensures in (
-      place_back a.room.now a.t a.order a.k a.out.now call,
-      number_back a.room.now a.t a.order a.k a.out.now call a.refusals.now,
-    )
+    let call = c.answer_point-r.ensures in record {
+      fact_1 = place_back a.room.now a.t a.order a.k a.out.now call;
+      fact_2 = number_back a.room.now a.t a.order a.k a.out.now call a.refusals.now;
+    }

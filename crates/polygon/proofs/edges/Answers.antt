@@ -17,15 +17,12 @@ loop-i-init c = first (search rules)
 reach : (step i n : ℕ) → i < n → step * i ≤ step * (n - 1)
 reach step i n h = mul-le-mul_left step (omega arith)
 
-abbrev start_of : tie.In-loop invariant-loop decreases-loop → tie.Start invariant-loop decreases-loop
-start_of c = c.before.before.before.before
-
 pub overflow_mul-step : goal.overflow_mul-step
-overflow_mul-step c = let a = (start_of c).args in omega (arith, reach a.step c.loop-i.i a.n c.loop-i-test.true)
+overflow_mul-step c = let a = c.args in omega (arith, reach a.step c.loop-i.i a.n c.loop-i-test.true)
 
 pub corner-a-requires : goal.corner-a-requires
 corner-a-requires c =
-    let a = (start_of c).args in
+    let a = c.args in
     let r = reach a.step c.loop-i.i a.n c.loop-i-test.true in
     (omega arith, omega arith)
 
@@ -33,11 +30,11 @@ pub overflow_sub-i : goal.overflow_sub-i
 overflow_sub-i c = omega (arith, c.loop-i.invariant.low)
 
 pub overflow_mul-step-in-loop-i : goal.overflow_mul-step-in-loop-i
-overflow_mul-step-in-loop-i c = let a = (start_of l).args in omega (arith, reach a.step (c.loop-i.i - 1) a.n (omega (arith, c.loop-i-test.true)))
+overflow_mul-step-in-loop-i c = let a = c.args in omega (arith, reach a.step (c.loop-i.i - 1) a.n (omega (arith, c.loop-i-test.true)))
 
 pub corner-b-requires : goal.corner-b-requires
 corner-b-requires c =
-    let a = (start_of l).args in
+    let a = c.args in
     let r = reach a.step (c.loop-i.i - 1) a.n (omega (arith, c.loop-i-test.true)) in
     (omega arith, omega arith)
 

@@ -23,8 +23,12 @@ returns-then-coords-lt4 c = no_edges _ _ (omega arith)
 pub edges-requires : goal.edges-requires
 edges-requires c =
     let a = c.args in
-    let l = length-drop 1 a.coords.now in
-    (omega arith, (omega arith, (omega arith, omega arith)))
+    let l = length-drop 1 a.coords.now in record {
+      fact_1 = omega arith;
+      fact_2 = omega arith;
+      fact_3 = omega arith;
+      fact_4 = omega arith;
+    }
 
 pub returns : goal.returns
 returns c = let q = c.args.coords.now in c.edges.ensures ∙ turn_length q (take (length q - 1) (drop 1 q)) (length q / 2) (second q)

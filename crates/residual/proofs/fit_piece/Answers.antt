@@ -8,6 +8,6 @@ returns c =
     let q = a.q.now in
     let w = a.work.now in
     let ns = a.counts.now in (
-      fit_judged q a.c w ns c.requires a.t _ c.piece_at-p.result c.piece_at-p.ensures.0 c.clamp.ensures,
-      (fit_doubles q a.c w ns c.requires c.piece_at-p.ensures.1.0, fit_counts q a.c w ns c.requires c.piece_at-p.ensures.1.1),
+      fit_judged q a.c w ns c.requires a.t _ c.piece_at-p.result c.piece_at-p.ensures.answer c.clamp.ensures,
+      (fit_doubles q a.c w ns c.requires c.piece_at-p.ensures.doubles.0, fit_counts q a.c w ns c.requires c.piece_at-p.ensures.doubles.1),
     )

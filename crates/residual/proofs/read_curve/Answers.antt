@@ -13,7 +13,7 @@ returns-in-Control c =
     let a = c.args in
     let e = c.enum_told-1.given.1 in (
       control-judged a.form a.q.now a.given a.knots.now a.t c.control_piece.result e
-          c.control_piece.ensures.0 c.control_piece.ensures.1,
+          c.control_piece.ensures.read c.control_piece.ensures.fine_value,
       (control-doubles a.form a.q.now a.c a.work.now e, control-counts a.form a.q.now a.counts.now e),
     )
 

@@ -46,7 +46,7 @@ told c =
     c.lacks.ensures
     ∙ ap
     (λ (n : ℕ). lacks_of n (length a.handles.now + 3) (length a.work.now) (length a.counts.now) (length a.residuals.now) (length a.rows.now))
-    c.cells-size.ensures.0
+    c.cells-size.ensures.fact_1
 
 room : (c : Else-lacks) → let a = c.args in
     (cells_for a.form a.handles.now * (length a.handles.now + 3 + 1) ≤ length a.work.now)
@@ -73,7 +73,7 @@ pub cells-size-requires : goal.cells-size-requires
 cells-size-requires c = omega (arith, (facts c).0)
 
 pub lacks-requires : goal.lacks-requires
-lacks-requires c = (c.cells-size.ensures.1, omega (arith, (facts (goal.at.lacks-requires c).Else-r-ne0).0))
+lacks-requires c = (c.cells-size.ensures.fact_2, omega (arith, (facts (goal.at.lacks-requires c).Else-r-ne0).0))
 
 pub returns-then-lacks : goal.returns-then-lacks
 returns-then-lacks c =
@@ -95,9 +95,9 @@ answer-requires c =
 pub returns : goal.returns
 returns c =
     let a = c.args in
-    let j = c.read_curve-p.ensures.0 in
+    let j = c.read_curve-p.ensures.answer in
     let q = question (goal.at.returns c).Start in
     concluded q (slices (goal.at.returns c).Start) (stored_fine a.form q.handles) c.read_curve-p.result.fine (three_for q) (in_order c.residuals_of-three.result)
     (room_passed q (slices (goal.at.returns c).Start) (passed (goal.at.returns c).Else-r-ne0) (sym (told (goal.at.returns c).After-lacks) ∙ c.if-lacks.false)) j.verdict
-    (λ f. c.residuals_of-three.ensures (shape_for q) q.handles refl (j.read f)) c.read_curve-p.ensures.1.0 c.read_curve-p.ensures.1.1
-    c.answer.ensures.0 c.answer.ensures.1
+    (λ f. c.residuals_of-three.ensures (shape_for q) q.handles refl (j.read f)) c.read_curve-p.ensures.doubles.0 c.read_curve-p.ensures.doubles.1
+    c.answer.ensures.leaves c.answer.ensures.leaves_2

@@ -7,4 +7,4 @@ use Rattle.meaning.proofs.For.{At}
 use Rattle.rooms.proofs.every_other.Given as goal
 
 abbrev pub invariant-loop-i : goal.invariant-loop-i
-invariant-loop-i l = At 0 l.n (λ j l. set l j (at1 plain l.coords (2 * j + l.off))) l.initial.a l.i l.a
+invariant-loop-i s = At 0 s.n (λ j l. set l j (at1 plain s.coords (2 * j + s.off))) s.initial.a s.i s.a

@@ -29,11 +29,11 @@ room_of c = c.walk-k.new.1.1.1.0
 
 count-is : (c : After-walk-k) → c.walk-k.result ≡ length (samples c)
 count-is c =
-    walk_count c.args.n c.args.u.now c.args.per (replicate 1105 zero64) c.walk-k.ensures.0
+    walk_count c.args.n c.args.u.now c.args.per (replicate 1105 zero64) c.walk-k.ensures.fact_1
 
 room-is : (c : After-walk-k) → room_of c ≡ samples c ++ drop (length (samples c)) (replicate 1105 zero64)
 room-is c =
-    walk_room c.args.n c.args.u.now c.args.per (replicate 1105 zero64) c.walk-k.ensures.0
+    walk_room c.args.n c.args.u.now c.args.per (replicate 1105 zero64) c.walk-k.ensures.fact_1
 
 -- what is delivered of the room is the answer of the curve
 answered : (c : After-walk-k) {o : Outcome} → let out = c.args.out.now in let k = c.walk-k.result in
@@ -52,7 +52,7 @@ slice_bounds-deliver-end c =
       length-drop (length (samples (goal.at.slice_bounds-deliver-end c).After-walk-k)) zeros,
       length-replicate 1105 zero64,
       count-is (goal.at.slice_bounds-deliver-end c).After-walk-k,
-      c.walk-k.ensures.1,
+      c.walk-k.ensures.fact_2,
     )
 
 pub returns-then-r-eq0 : goal.returns-then-r-eq0

@@ -30,5 +30,8 @@ pub returns : goal.returns
 returns c =
     let l = c.loop-i in
     let e : l.i ≡ c.args.n + 3 - 0 = omega arith in
-    let s = rw e at l.invariant.2 in
-    (omega (arith, s.few), (sym s.count, s.is))
+    let s = rw e at l.invariant.2 in record {
+      fact_1 = omega (arith, s.few);
+      fact_2 = sym s.count;
+      fact_3 = s.is;
+    }

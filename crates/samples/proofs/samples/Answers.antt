@@ -17,9 +17,11 @@ returns-then-r-ne0 c = count_stays (leaves (refused _ _ c.check-r.ensures c.if-r
 
 pub answer_samples-requires : goal.answer_samples-requires
 answer_samples-requires c =
-    let r = c.args.t1 in
-    let k = (record_sound r).knots (number_of (sym c.check-r.ensures) ∙ c.if-r-ne0.false) in
-    (k.room, knots_reach r.knots r.points k)
+    let r = c.args.c in
+    let k = (record_sound r).knots (number_of (sym c.check-r.ensures) ∙ c.if-r-ne0.false) in record {
+      fact_1 = k.room;
+      fact_2 = knots_reach r.knots r.points k;
+    }
 
 pub returns : goal.returns
 unfolding samples_answer samples_of

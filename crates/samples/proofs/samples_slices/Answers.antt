@@ -29,8 +29,10 @@ returns-then-r-ne0 c = count_stays (leaves (refused _ _ c.check_handles-r.ensure
 pub answer_samples-requires : goal.answer_samples-requires
 answer_samples-requires c =
     let a = c.args in
-    let k = slices_accepted a.coords.now a.knots.now (passed (goal.at.answer_samples-requires c).Else-r-ne0) in
-    (k.room, omega (arith, k.sound.long))
+    let k = slices_accepted a.coords.now a.knots.now (passed (goal.at.answer_samples-requires c).Else-r-ne0) in record {
+      fact_1 = k.room;
+      fact_2 = omega (arith, k.sound.long);
+    }
 
 pub returns : goal.returns
 unfolding samples_answer

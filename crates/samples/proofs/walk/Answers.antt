@@ -19,5 +19,7 @@ returns c =
     let shape : Shape Float = record { n = a.n; xs = []; ys = []; knots = a.u.now } in
     let l = samples_of shape a.per in
     let k = samples_count shape a.per s.ensures.1.0 in
-    let full = samples_room shape a.per a.room.now (omega (arith, s.ensures.0)) s.ensures.1.0 s.ensures.1.1 in
-    ((λ i. walked (sym k i) ((full ∙ ap (λ (m : ℕ). l ++ drop m a.room.now) (sym k)) i)), omega (arith, s.ensures.0))
+    let full = samples_room shape a.per a.room.now (omega (arith, s.ensures.0)) s.ensures.1.0 s.ensures.1.1 in record {
+      fact_1 = (λ i. walked (sym k i) ((full ∙ ap (λ (m : ℕ). l ++ drop m a.room.now) (sym k)) i));
+      fact_2 = omega (arith, s.ensures.0);
+    }

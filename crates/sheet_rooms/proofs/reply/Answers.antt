@@ -10,7 +10,7 @@ use Rattle.sheet_rooms.proofs.reply.Goals as goal
 use Rattle.sheet_rooms.proofs.reply.Goals.{After-least-k}
 
 -- what is taken lies in the room
-inside : (c : After-least-k) → c.least-k.result ≤ length c.args.t1
+inside : (c : After-least-k) → c.least-k.result ≤ length c.args.room
 inside c = omega (arith, c.least-k.ensures, min-le_right c.args.n 20878)
 
 pub slice_bounds-room-end : goal.slice_bounds-room-end
@@ -21,7 +21,7 @@ slice_bounds-answer-end c = sym (length-take-le _ _ (inside (goal.at.slice_bound
 
 pub returns : goal.returns
 returns c =
-    let room = c.args.t1 in
+    let room = c.args.room in
     let n = c.args.n in
     let long : length room ≡ 20878 = omega arith in
     let taken : c.least-k.result ≡ min n (length room) = c.least-k.ensures ∙ ap (min n) (sym long) in

@@ -20,8 +20,10 @@ returns-then-not-x c =
     )
 
 pub answer_sheet-requires : goal.answer_sheet-requires
-answer_sheet-requires c =
-    (subst Limits (sym c.read_sheet-x.ensures) (limits _), omega arith)
+answer_sheet-requires c = record {
+      fact_1 = subst Limits (sym c.read_sheet-x.ensures) (limits _);
+      fact_2 = omega arith;
+    }
 
 pub returns : goal.returns
 returns c =

@@ -14,15 +14,15 @@ slice_bounds-build-end-2 c = sym (ap length c.take_numbers-2.ensures ∙ numbers
 
 pub put_built-requires : goal.put_built-requires
 put_built-requires c =
-    let l = c.requires.0 in
+    let l = c.requires.fact_1 in
     omega (arith, l.parameters.0, l.parameters.1)
 
 pub returns : goal.returns
 returns c =
     let a = c.args in (
-      rw (← (text-built a.s.now a.x a.work.now c.take_numbers.ensures c.take_numbers-2.ensures c.build-b.ensures)) c.put_built.ensures.0,
+      rw (← (text-built a.s.now a.x a.work.now c.take_numbers.ensures c.take_numbers-2.ensures c.build-b.ensures)) c.put_built.ensures.text,
       (
         work-built a.s.now a.x a.work.now c.take_numbers.ensures c.take_numbers-2.ensures c.build-b.ensures,
-        promise_built a.s.now a.x a.work.now c.take_numbers.ensures c.take_numbers-2.ensures c.build-b.ensures c.put_built.ensures.1,
+        promise_built a.s.now a.x a.work.now c.take_numbers.ensures c.take_numbers-2.ensures c.build-b.ensures c.put_built.ensures.hull,
       ),
     )

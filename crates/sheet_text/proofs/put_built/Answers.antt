@@ -18,4 +18,4 @@ put_lines-requires c =
 pub returns : goal.returns
 returns c =
     let l = c.put_lines.ensures in
-    (rw (built_printed c.args.b _ c.if-refusal-ne0.false) (joined c.put_head-at.ensures.0 l.0), λ e. l.1)
+    (rw (built_printed c.args.b _ c.if-refusal-ne0.false) (joined c.put_head-at.ensures.put l.0), λ e. l.1)

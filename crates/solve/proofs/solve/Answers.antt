@@ -13,13 +13,18 @@ use Rattle.solve.proofs.solve.Goals as goal
 
 pub returns-then-m-lt1 : goal.returns-then-m-lt1
 unfolding solve_of work_of
-returns-then-m-lt1 c = (rw (lt-leb _ _ c.if-m-lt1.true) c.unsolved.ensures, rw (lt-leb _ _ c.if-m-lt1.true))
+returns-then-m-lt1 c = record {
+      fact_1 = rw (lt-leb _ _ c.if-m-lt1.true) c.unsolved.ensures;
+      fact_2 = rw (lt-leb _ _ c.if-m-lt1.true);
+    }
 
 pub returns-then-m-gt66 : goal.returns-then-m-gt66
 unfolding solve_of work_of
 returns-then-m-gt66 c =
-    let low = le-leb _ _ c.if-m-lt1.false in
-    (rw (low, lt-leb _ _ c.if-m-gt66.true) c.unsolved-then-m-gt66.ensures, rw (low, lt-leb _ _ c.if-m-gt66.true))
+    let low = le-leb _ _ c.if-m-lt1.false in record {
+      fact_1 = rw (low, lt-leb _ _ c.if-m-gt66.true) c.unsolved-then-m-gt66.ensures;
+      fact_2 = rw (low, lt-leb _ _ c.if-m-gt66.true);
+    }
 
 pub overflow_mul-m : goal.overflow_mul-m
 overflow_mul-m c =
@@ -30,8 +35,10 @@ pub returns-then-w-m : goal.returns-then-w-m
 unfolding solve_of work_of
 returns-then-w-m c =
     let low = le-leb _ _ c.if-m-lt1.false in
-    let high = le-leb _ _ c.if-m-gt66.false in
-    (rw (low, high, lt-leb _ _ c.if-w-m.true) c.unsolved-then-w-m.ensures, rw (low, high, lt-leb _ _ c.if-w-m.true))
+    let high = le-leb _ _ c.if-m-gt66.false in record {
+      fact_1 = rw (low, high, lt-leb _ _ c.if-w-m.true) c.unsolved-then-w-m.ensures;
+      fact_2 = rw (low, high, lt-leb _ _ c.if-w-m.true);
+    }
 
 pub returns : goal.returns
 unfolding solve_of work_of
@@ -41,5 +48,7 @@ returns c =
     let w = a.w.now in
     let room : m * (m + 2) ≤ length w = c.if-w-m.false in
     let yes = fits_true m w c.if-m-lt1.false c.if-m-gt66.false room in
-    let out = c.solve_lent.ensures (rows_of m (m + 2) w) (drop (m * (m + 2)) w) (flat-of_rows m (m + 2) w) (rows_shaped_of m (m + 2) w room) in
-    (rw yes out.0, rw yes out.1)
+    let out = c.solve_lent.ensures (rows_of m (m + 2) w) (drop (m * (m + 2)) w) (flat-of_rows m (m + 2) w) (rows_shaped_of m (m + 2) w room) in record {
+      fact_1 = rw yes out.0;
+      fact_2 = rw yes out.1;
+    }

@@ -37,7 +37,7 @@ solved-in : (k : After-solve_rows-fine) → OfRows (rows_in k) (rows_in k + 2) k
 solved-in k M rest e sh =
     let m = rows_in k in
     let first = laid_start m M k.requires.0 sh.count ∙ ap (λ (l : List ℕ). laid m l M) (sym k.in_order-order.ensures) in
-    k.solve_rows-fine.ensures.1 M rest (e ∙ ap (λ (N : List (List Float)). flat N rest) first) sh
+    k.solve_rows-fine.ensures.becomes M rest (e ∙ ap (λ (N : List (List Float)). flat N rest) first) sh
 
 -- what stands after the rows once their room is cleared
 rest-stays : (k : After-solve_rows-fine) → OfRows (rows_in k) (rows_in k + 2) k.args.w.now (λ M rest.
@@ -46,15 +46,15 @@ rest-stays k M rest e sh =
     let m = rows_in k in
     let N = solved plain m M in
     ap (drop (m * (m + 2))) (solved-in k M rest e sh).0
-    ∙ rest_of (laid m (order-of k) N) rest m (m + 2) (laid_shaped k.solve_rows-fine.ensures.0 N (solved_shaped plain m (m + 2) M sh))
+    ∙ rest_of (laid m (order-of k) N) rest m (m + 2) (laid_shaped k.solve_rows-fine.ensures.stays N (solved_shaped plain m (m + 2) M sh))
 
 pub column_of-xs-requires : goal.column_of-xs-requires
 column_of-xs-requires c =
-    (omega arith, omega (arith, c.solve_rows-fine.auto, c.requires.1), c.solve_rows-fine.ensures.0)
+    (omega arith, omega (arith, c.solve_rows-fine.auto, c.requires.1), c.solve_rows-fine.ensures.stays)
 
 pub column_of-ys-requires : goal.column_of-ys-requires
 column_of-ys-requires c =
-    (omega arith, omega (arith, c.solve_rows-fine.auto, c.requires.1), c.solve_rows-fine.ensures.0)
+    (omega arith, omega (arith, c.solve_rows-fine.auto, c.requires.1), c.solve_rows-fine.ensures.stays)
 
 pub clear-requires : goal.clear-requires
 clear-requires c =

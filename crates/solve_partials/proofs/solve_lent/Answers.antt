@@ -42,19 +42,19 @@ solved-in : (k : After-solve_rows-fine) → let a = k.args in
 solved-in k M rest e sh =
     let m = rows_in k in
     let first = laid_start m M (omega (arith, k.requires.2)) sh.count ∙ ap (λ (l : List ℕ). laid m l M) (sym k.in_order-order.ensures) in
-    k.solve_rows-fine.ensures.1 M rest (e ∙ ap (λ (N : List (List Dv)). flat N rest) first) sh
+    k.solve_rows-fine.ensures.becomes M rest (e ∙ ap (λ (N : List (List Dv)). flat N rest) first) sh
 
 pub four_of-xs-requires : goal.four_of-xs-requires
 four_of-xs-requires c =
     let p = c.requires in
     let kept = c.solve_rows-fine.auto in
-    (room-kept p.0 (omega (arith, kept)) (omega (arith, kept)), omega (arith, kept, p.1), omega arith, c.solve_rows-fine.ensures.0)
+    (room-kept p.0 (omega (arith, kept)) (omega (arith, kept)), omega (arith, kept, p.1), omega arith, c.solve_rows-fine.ensures.stays)
 
 pub four_of-ys-requires : goal.four_of-ys-requires
 four_of-ys-requires c =
     let p = c.requires in
     let kept = c.solve_rows-fine.auto in
-    (room-kept p.0 (omega (arith, kept)) (omega (arith, kept)), omega (arith, kept, p.1), omega arith, c.solve_rows-fine.ensures.0)
+    (room-kept p.0 (omega (arith, kept)) (omega (arith, kept)), omega (arith, kept, p.1), omega arith, c.solve_rows-fine.ensures.stays)
 
 -- what the clearing leaves
 left-doubles : (c : After-clear) → c.clear.new.0 ≡ replicate (length c.args.w.now) zero64

@@ -11,13 +11,19 @@ use Rattle.span.proofs.counted.Goals as goal
 
 pub returns-then-t-u : goal.returns-then-t-u
 returns-then-t-u c =
-    let a = c.args in
-    (rw (opened a.u.now a.n a.t (omega arith) (omega arith) (omega arith), c.if-t-u.true), (omega arith, omega arith))
+    let a = c.args in record {
+      fact_1 = rw (opened a.u.now a.n a.t (omega arith) (omega arith) (omega arith), c.if-t-u.true);
+      fact_2 = omega arith;
+      fact_3 = omega arith;
+    }
 
 pub returns-then-t-u-2 : goal.returns-then-t-u-2
 returns-then-t-u-2 c =
-    let a = c.args in
-    (rw (opened a.u.now a.n a.t (omega arith) (omega arith) (omega arith), c.if-t-u.false, c.if-t-u-2.true), (omega arith, omega arith))
+    let a = c.args in record {
+      fact_1 = rw (opened a.u.now a.n a.t (omega arith) (omega arith) (omega arith), c.if-t-u.false, c.if-t-u-2.true);
+      fact_2 = omega arith;
+      fact_3 = omega arith;
+    }
 
 pub loop-j-init : goal.loop-j-init
 unfolding reached
@@ -47,7 +53,8 @@ returns c =
     let l = c.loop-j in
     let e : l.j ≡ a.n = omega arith in
     let r = reached_bounds a.u.now a.t (a.n - 4) in
-    let k : l.k ≡ reached a.u.now a.t (a.n - 4) = l.invariant.0 ∙ ap (λ (j : ℕ). reached a.u.now a.t (j - 4)) e in (
-      k ∙ sym (opened a.u.now a.n a.t (omega arith) (omega arith) (omega arith) ∙ rw (c.if-t-u.false, c.if-t-u-2.false) refl),
-      (omega (arith, r.0, k), omega (arith, r.1, k)),
-    )
+    let k : l.k ≡ reached a.u.now a.t (a.n - 4) = l.invariant.0 ∙ ap (λ (j : ℕ). reached a.u.now a.t (j - 4)) e in record {
+      fact_1 = k ∙ sym (opened a.u.now a.n a.t (omega arith) (omega arith) (omega arith) ∙ rw (c.if-t-u.false, c.if-t-u-2.false) refl);
+      fact_2 = omega (arith, r.0, k);
+      fact_3 = omega (arith, r.1, k);
+    }

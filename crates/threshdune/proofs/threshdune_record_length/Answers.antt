@@ -11,4 +11,4 @@ pub returns : goal.returns
 returns c =
     let x = c.args.answer.now in
     c.hand_number-r.ensures
-    ∙ ap (λ (v : Values). handed v 0 x) (c.length.ensures.0 ∙ ap (λ (m : Curve). length_answer (by_record m)) c.read_curve-c.ensures)
+    ∙ ap (λ (v : Values). handed v 0 x) (c.length.ensures.answer ∙ ap (λ (m : Curve). length_answer (by_record m)) c.read_curve-c.ensures)

@@ -24,7 +24,7 @@ find_pivot-best-requires c =
     (omega (arith, p.0), omega (arith, p.0, p.1), p.3, p.4)
 
 best : (f : After-find_pivot-best) → f.find_pivot-best.result < f.args.m
-best f = omega (arith, f.find_pivot-best.ensures.0, f.requires.0)
+best f = omega (arith, f.find_pivot-best.ensures.within, f.requires.0)
 
 pub offset_bounds-order-best : goal.offset_bounds-order-best
 offset_bounds-order-best c = omega (arith, best c, c.requires.4.few)
@@ -38,17 +38,17 @@ next-is x = x.exchange.ensures
 
 stays : (x : After-exchange) → Order x.args.m x.exchange.new.0
 stays x =
-    next_order x.pre.4 x.args.col x.find_pivot-best.result x.pre.0 (best x.before.before.before.before) (next-is x)
+    next_order x.requires.4 x.args.col x.find_pivot-best.result x.requires.0 (best x.before.before.before.before) (next-is x)
 
 pub load_at-p-requires : goal.load_at-p-requires
 load_at-p-requires c =
-    let p = c.pre in
+    let p = c.requires in
     (p.4.within c.find_pivot-best.result (best (goal.at.load_at-p-requires c).After-find_pivot-best), p.2, p.3)
 
 -- the row that was copied out has s numbers
 whole_row : (c : After-p-1) → let s = c.args.s in length (take s c.load_at-p.result) ≡ s
 whole_row c =
-    length-take-le c.args.s _ (omega (arith, c.pre.2, c.load_at-p.ensures.0))
+    length-take-le c.args.s _ (omega (arith, c.requires.2, c.load_at-p.ensures.0))
 
 pub slice_bounds-reduce_rows-end : goal.slice_bounds-reduce_rows-end
 slice_bounds-reduce_rows-end c = sym (whole_row c)
@@ -62,19 +62,19 @@ pub returns : goal.returns
 unfolding pivoted column_done column_ok
 returns c =
     let a = c.args in
-    let o = c.pre.4 in
+    let o = c.requires.4 in
     let next = c.exchange.last.0 in
     let row = c.find_pivot-best.result in (
       stays (goal.at.returns c).After-exchange,
       λ M rest e sh.
           let N = pivoted plain a.m a.col M in
-          let is = c.find_pivot-best.ensures.1 M rest e sh ∙ best_is plain a.m a.col M c.pre.0 in
-          let moved = next_rows o a.col row c.pre.0 (best (goal.at.returns c).After-find_pivot-best) (next-is (goal.at.returns c).After-exchange) plain M rest a.w.now sh.count is e in
-          let shN = pivoted_shaped plain a.m a.s a.col M c.pre.0 sh in
-          let place = next_place o a.col row c.pre.0 (best (goal.at.returns c).After-find_pivot-best) (next-is (goal.at.returns c).After-exchange) in
+          let is = c.find_pivot-best.ensures.greatest M rest e sh ∙ best_is plain a.m a.col M c.requires.0 in
+          let moved = next_rows o a.col row c.requires.0 (best (goal.at.returns c).After-find_pivot-best) (next-is (goal.at.returns c).After-exchange) plain M rest a.w.now sh.count is e in
+          let shN = pivoted_shaped plain a.m a.s a.col M c.requires.0 sh in
+          let place = next_place o a.col row c.requires.0 (best (goal.at.returns c).After-find_pivot-best) (next-is (goal.at.returns c).After-exchange) in
           let lies = laid a.m next N in
           let loaded = c.load_at-p.ensures.1 lies rest moved (laid_shaped (stays (goal.at.returns c).After-exchange) N shN)
-          ∙ ap (λ (k : ℕ). get_or lies k []) place ∙ laid-row (stays (goal.at.returns c).After-exchange) N a.col c.pre.0 in
+          ∙ ap (λ (k : ℕ). get_or lies k []) place ∙ laid-row (stays (goal.at.returns c).After-exchange) N a.col c.requires.0 in
           let done = c.reduce_rows.ensures N rest moved shN in (
             done.0 ∙ ap (λ (q : List Float). flat (laid a.m next (reduced_rows plain a.m a.m a.col q N)) rest) loaded,
             done.1 ∙ ap (λ (q : List Float). reduced_rows_ok plain a.m a.m a.col q N) loaded,

@@ -11,40 +11,41 @@ use Rattle.solve.proofs.Placed.{read-placed}
 use Rattle.solve.proofs.Answers.{column-length, column-at, column_end}
 use borrow.Author.Rules.{rules}
 use Rattle.solve.proofs.work.column_of.Goals as goal
+use Rattle.solve.proofs.work.column_of.Goals.{In-loop-r}
 
 pub loop-r-init : goal.loop-r-init
 loop-r-init c = (λ M rest e sh. refl, omega arith, refl)
 
 -- the row ends within the rows
-room : (c : tie.In-loop invariant-loop decreases-loop) → let a = c.before.before.args in place_of a.order.now c.before.loop.r * a.s + a.s ≤ a.m * a.s
-room c = let b = c.before.before in row_le _ b.args.m b.args.s (b.requires.2.within _ c.loop-test.true)
+room : (c : In-loop-r) → let a = c.args in place_of a.order.now c.loop-r.r * a.s + a.s ≤ a.m * a.s
+room c = row_le _ c.args.m c.args.s (c.requires.2.within _ c.loop-r-test.true)
 
-index : (c : tie.In-loop invariant-loop decreases-loop) → c.before.loop.r < 66
-index c = omega (arith, c.before.before.requires.2.few, c.loop-test.true)
+index : (c : In-loop-r) → c.loop-r.r < 66
+index c = omega (arith, c.requires.2.few, c.loop-r-test.true)
 
 pub offset_bounds-order-r : goal.offset_bounds-order-r
 offset_bounds-order-r c = omega (arith, index c)
 
 pub bounds-order-r : goal.bounds-order-r
-bounds-order-r c = omega (arith, index c)
+bounds-order-r c = omega (arith, index (goal.at.bounds-order-r c).In-loop-r)
 
 pub overflow_mul-out : goal.overflow_mul-out
-overflow_mul-out c = omega (arith, room c.before)
+overflow_mul-out c = omega (arith, room (goal.at.overflow_mul-out c).In-loop-r)
 
 pub overflow_add-out : goal.overflow_add-out
-overflow_add-out c = omega (arith, room c.before)
+overflow_add-out c = omega (arith, room (goal.at.overflow_add-out c).In-loop-r)
 
 pub offset_bounds-w-at : goal.offset_bounds-w-at
-offset_bounds-w-at c = omega (arith, room c.before)
+offset_bounds-w-at c = omega (arith, room (goal.at.offset_bounds-w-at c).In-loop-r)
 
 pub bounds-w-at : goal.bounds-w-at
-bounds-w-at c = omega (arith, room c.before.before)
+bounds-w-at c = omega (arith, room (goal.at.bounds-w-at c).In-loop-r)
 
 pub offset_bounds-out-r : goal.offset_bounds-out-r
-offset_bounds-out-r c = omega (arith, index c.before.before)
+offset_bounds-out-r c = omega (arith, index (goal.at.offset_bounds-out-r c).In-loop-r)
 
 pub bounds-out-r : goal.bounds-out-r
-bounds-out-r c = omega (arith, index c.before.before)
+bounds-out-r c = omega (arith, index (goal.at.bounds-out-r c).In-loop-r)
 
 pub loop-r-preserved : goal.loop-r-preserved
 loop-r-preserved c =

@@ -16,16 +16,17 @@ use Rattle.solve.specs.Best.{better, best_among}
 use Rattle.solve.proofs.Lists.{row_le}
 use Rattle.solve.proofs.Placed.{read-placed}
 use Rattle.solve.proofs.work.find_pivot.Goals as goal
+use Rattle.solve.proofs.work.find_pivot.Goals.{In-loop-r, Start}
 
 -- row lo ends within the rows, and so does the row that a turn reads
-room : (b : tie.Start invariant-loop decreases-loop) → place_of b.args.order.now b.args.lo * b.args.s + b.args.s ≤ b.args.m * b.args.s
+room : (b : Start) → place_of b.args.order.now b.args.lo * b.args.s + b.args.s ≤ b.args.m * b.args.s
 room b = row_le _ b.args.m b.args.s (b.requires.3.within _ (omega (arith, b.requires)))
 
-within : (c : tie.In-loop invariant-loop decreases-loop) → c.before.loop.r < c.before.before.before.before.before.args.m
-within c = omega (arith, c.before.before.before.before.before.requires, c.loop-test.true)
+within : (c : In-loop-r) → c.loop-r.r < c.args.m
+within c = omega (arith, c.requires, c.loop-r-test.true)
 
-below : (c : tie.In-loop invariant-loop decreases-loop) → let a = c.before.before.before.before.before.args in place_of a.order.now c.before.loop.r * a.s + a.s ≤ a.m * a.s
-below c = let b = c.before.before.before.before.before in row_le _ b.args.m b.args.s (b.requires.3.within _ (within c))
+below : (c : In-loop-r) → let a = c.args in place_of a.order.now c.loop-r.r * a.s + a.s ≤ a.m * a.s
+below c = row_le _ c.args.m c.args.s (c.requires.3.within _ (within c))
 
 pub offset_bounds-order-lo : goal.offset_bounds-order-lo
 offset_bounds-order-lo c = omega (arith, c.requires, c.requires.3.few)
@@ -34,16 +35,16 @@ pub bounds-order-lo : goal.bounds-order-lo
 bounds-order-lo c = omega (arith, c.requires, c.requires.3.few)
 
 pub overflow_mul-top : goal.overflow_mul-top
-overflow_mul-top c = omega (arith, room c.before.before)
+overflow_mul-top c = omega (arith, room (goal.at.overflow_mul-top c).Start)
 
 pub overflow_add-top : goal.overflow_add-top
-overflow_add-top c = omega (arith, room c.before.before)
+overflow_add-top c = omega (arith, room (goal.at.overflow_add-top c).Start)
 
 pub offset_bounds-w-place : goal.offset_bounds-w-place
-offset_bounds-w-place c = omega (arith, room c.before.before)
+offset_bounds-w-place c = omega (arith, room (goal.at.offset_bounds-w-place c).Start)
 
 pub bounds-w-place : goal.bounds-w-place
-bounds-w-place c = omega (arith, room c.before.before.before)
+bounds-w-place c = omega (arith, room (goal.at.bounds-w-place c).Start)
 
 pub loop-r-init : goal.loop-r-init
 loop-r-init c = (omega arith, omega arith, omega arith, refl, λ M rest e sh. first (omega arith))
@@ -52,25 +53,25 @@ pub offset_bounds-order-r : goal.offset_bounds-order-r
 offset_bounds-order-r c = omega (arith, within c, c.requires.3.few)
 
 pub bounds-order-r : goal.bounds-order-r
-bounds-order-r c = omega (arith, within c, c.requires.3.few)
+bounds-order-r c = omega (arith, within (goal.at.bounds-order-r c).In-loop-r, c.requires.3.few)
 
 pub overflow_mul-v : goal.overflow_mul-v
-overflow_mul-v c = omega (arith, below c.before)
+overflow_mul-v c = omega (arith, below (goal.at.overflow_mul-v c).In-loop-r)
 
 pub overflow_add-v : goal.overflow_add-v
-overflow_add-v c = omega (arith, below c.before)
+overflow_add-v c = omega (arith, below (goal.at.overflow_add-v c).In-loop-r)
 
 pub offset_bounds-w-at : goal.offset_bounds-w-at
-offset_bounds-w-at c = omega (arith, below c.before)
+offset_bounds-w-at c = omega (arith, below (goal.at.offset_bounds-w-at c).In-loop-r)
 
 pub bounds-w-at : goal.bounds-w-at
-bounds-w-at c = omega (arith, below c.before.before)
+bounds-w-at c = omega (arith, below (goal.at.bounds-w-at c).In-loop-r)
 
 pub loop-r-preserved : goal.loop-r-preserved
 loop-r-preserved c =
     let a = c.args in
     let l = c.loop-r in
-    let in_rows = within c.before.before.before.before in
+    let in_rows = within (goal.at.loop-r-preserved c).In-loop-r in
     let call = c.at_least in
     let read : (r : ℕ) → r < a.m → OfPlaced a.m a.s a.order.now a.w.now (λ M rest. get_or a.w.now (place_of a.order.now r * a.s + a.k) nan ≡ at2 plain M r a.k) =
     λ r h M rest e sh. read-placed c.requires.3 M rest a.w.now r e sh h a.k c.requires.1 nan in

@@ -28,9 +28,9 @@ pub returns : goal.returns
 returns c =
     let a = c.args in
     let h = c.requires.0 in (
-      c.Load-row.ensures.0,
+      c.load_row.ensures.0,
       λ M rest e sh.
           let row = lent_row rest a.w.now a.at e sh h in
           let len : length (take (a.at * a.s + a.s - a.at * a.s) (drop (a.at * a.s) a.w.now)) ≡ a.s = ap length row ∙ sh.each a.at h in
-          ap (λ (n : ℕ). take n c.Load-row.result) (sym len) ∙ c.Load-row.ensures.1 ∙ row,
+          ap (λ (n : ℕ). take n c.load_row.result) (sym len) ∙ c.load_row.ensures.1 ∙ row,
     )

@@ -12,6 +12,6 @@ returns c =
     let q = c.longer-top.ensures in (
       q ∙ ap (max a.n) p,
       subtracted-value a.t.now a.a.now a.b.now _ _ _ a.n a.na a.nb _ _ p q
-          c.fill.ensures c.pre.4 c.pre.5 (omega (arith, c.pre, p, q))
-          c.less_product.ensures c.less_nothing.ensures (omega (arith, c.pre, c.less_nothing.ensures.long, c.less_product.ensures.long, c.fill.ensures.long)),
+          c.fill.ensures c.requires.4 c.requires.5 (omega (arith, c.requires, p, q))
+          c.less_product.ensures c.less_nothing.ensures (omega (arith, c.requires, c.less_nothing.ensures.long, c.less_product.ensures.long, c.fill.ensures.long)),
     )

@@ -18,15 +18,15 @@ pub substitute-second-requires : goal.substitute-second-requires
 substitute-second-requires c =
     let p = c.requires in
     let kept = c.eliminate-first.auto in
-    (room-kept p.0 (omega (arith, kept)) (omega (arith, kept)), omega (arith, kept, p.1), omega arith, c.eliminate-first.ensures.0)
+    (room-kept p.0 (omega (arith, kept)) (omega (arith, kept)), omega (arith, kept, p.1), omega arith, c.eliminate-first.ensures.stays)
 
 pub returns : goal.returns
 unfolding solved
 returns c =
     let m = c.args.m in (
-      c.eliminate-first.ensures.0,
+      c.eliminate-first.ensures.stays,
       λ M rest q sh.
-          let one = c.eliminate-first.ensures.1 M rest q sh in
+          let one = c.eliminate-first.ensures.becomes M rest q sh in
           let two = c.substitute-second.ensures (eliminated dual m m M) rest one.0 (eliminated_shaped dual m (m + 2) m M (omega arith) sh) in
           (two.0, c.both.ensures ∙ (λ i. one.1 i && two.1 i) ∙ sym (solved_along dual m M sh)),
     )

@@ -55,7 +55,7 @@ overflow_add-base-2 c = omega (arith, second (goal.at.overflow_add-base-2 c).Sta
 
 pub put_two-requires : goal.put_two-requires
 put_two-requires c =
-    (c.pre.0, omega (arith, second (goal.at.put_two-requires c).Start, c.pre.1), omega (arith, second (goal.at.put_two-requires c).Start, c.pre.1), c.answer-x.ensures.0, c.answer-y.ensures.0)
+    (c.requires.0, omega (arith, second (goal.at.put_two-requires c).Start, c.requires.1), omega (arith, second (goal.at.put_two-requires c).Start, c.requires.1), c.answer-x.ensures.0, c.answer-y.ensures.0)
 
 pub returns : goal.returns
 unfolding answered answered_ok
@@ -68,6 +68,6 @@ returns c =
     let y = c.answer-y.ensures.1 M rest e sh in (
       c.put_two.ensures
           ∙ (λ t. set (set H (base + a.m) (x t)) (base + (a.m + 1)) (y t))
-          ∙ write_placed c.pre.4 M rest H a.r e sh (omega (arith, c.pre.2)) a.m (a.m + 1) _ _ (omega (arith, c.pre.3)) (omega (arith, c.pre.3)),
+          ∙ write_placed c.requires.4 M rest H a.r e sh (omega (arith, c.requires.2)) a.m (a.m + 1) _ _ (omega (arith, c.requires.3)) (omega (arith, c.requires.3)),
       c.both.ensures ∙ (λ t. (c.is_fine.ensures ∙ ap fine_dv x) t && (c.is_fine-2.ensures ∙ ap fine_dv y) t),
     )

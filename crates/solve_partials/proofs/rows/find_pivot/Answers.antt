@@ -17,19 +17,20 @@ use Rattle.solve_partials.specs.Held.{held}
 use Rattle.solve_partials.proofs.Turns.{inside}
 use Rattle.solve_partials.proofs.Places.{cell_end, placed-value}
 use Rattle.solve_partials.proofs.rows.find_pivot.Goals as goal
+use Rattle.solve_partials.proofs.rows.find_pivot.Goals.{In-loop-r, Start}
 
 -- row lo lies within the rows, and so does the row that a turn reads
-low : (b : tie.Start invariant-loop decreases-loop) → place_of b.args.order.now b.args.lo < b.args.m
+low : (b : Start) → place_of b.args.order.now b.args.lo < b.args.m
 low b = b.requires.4.within b.args.lo (omega (arith, b.requires.0))
 
-room : (b : tie.Start invariant-loop decreases-loop) → place_of b.args.order.now b.args.lo * b.args.s + b.args.k < b.args.m * b.args.s
+room : (b : Start) → place_of b.args.order.now b.args.lo * b.args.s + b.args.k < b.args.m * b.args.s
 room b = inside _ b.args.k b.args.m b.args.s (low b) b.requires.1
 
-within : (c : tie.In-loop invariant-loop decreases-loop) → c.before.loop.r < c.before.before.before.before.before.args.m
-within c = omega (arith, c.before.before.before.before.before.requires.0, c.loop-test.true)
+within : (c : In-loop-r) → c.loop-r.r < c.args.m
+within c = omega (arith, c.requires.0, c.loop-r-test.true)
 
-below : (c : tie.In-loop invariant-loop decreases-loop) → let a = c.before.before.before.before.before.args in place_of a.order.now c.before.loop.r * a.s + a.k < a.m * a.s
-below c = let b = c.before.before.before.before.before in inside _ b.args.k b.args.m b.args.s (b.requires.4.within _ (within c)) b.requires.1
+below : (c : In-loop-r) → let a = c.args in place_of a.order.now c.loop-r.r * a.s + a.k < a.m * a.s
+below c = inside _ c.args.k c.args.m c.args.s (c.requires.4.within _ (within c)) c.requires.1
 
 pub offset_bounds-order-lo : goal.offset_bounds-order-lo
 offset_bounds-order-lo c = omega (arith, c.requires.0, c.requires.4.few)
@@ -38,15 +39,15 @@ pub bounds-order-lo : goal.bounds-order-lo
 bounds-order-lo c = omega (arith, c.requires.0, c.requires.4.few)
 
 pub overflow_mul-place : goal.overflow_mul-place
-overflow_mul-place c = omega (arith, room c.before.before, c.requires.3)
+overflow_mul-place c = omega (arith, room (goal.at.overflow_mul-place c).Start, c.requires.3)
 
 pub overflow_add-place : goal.overflow_add-place
-overflow_add-place c = omega (arith, room c.before.before, c.requires.3)
+overflow_add-place c = omega (arith, room (goal.at.overflow_add-place c).Start, c.requires.3)
 
 pub value_at-top-requires : goal.value_at-top-requires
 value_at-top-requires c =
     let a = c.args in
-    omega (arith, cell_end a.c (place_of a.order.now a.lo) a.k a.m a.s (low b) c.requires.1, c.requires.2)
+    omega (arith, cell_end a.c (place_of a.order.now a.lo) a.k a.m a.s (low (goal.at.value_at-top-requires c).Start) c.requires.1, c.requires.2)
 
 pub loop-r-init : goal.loop-r-init
 loop-r-init c = (omega arith, omega arith, omega arith, c.value_at-top.ensures, λ ns l M rest e sh. first (omega arith))
@@ -55,25 +56,25 @@ pub offset_bounds-order-r : goal.offset_bounds-order-r
 offset_bounds-order-r c = omega (arith, within c, c.requires.4.few)
 
 pub bounds-order-r : goal.bounds-order-r
-bounds-order-r c = omega (arith, within c, c.requires.4.few)
+bounds-order-r c = omega (arith, within (goal.at.bounds-order-r c).In-loop-r, c.requires.4.few)
 
 pub overflow_mul-at : goal.overflow_mul-at
-overflow_mul-at c = omega (arith, below c.before, c.requires.3)
+overflow_mul-at c = omega (arith, below (goal.at.overflow_mul-at c).In-loop-r, c.requires.3)
 
 pub overflow_add-at : goal.overflow_add-at
-overflow_add-at c = omega (arith, below c.before, c.requires.3)
+overflow_add-at c = omega (arith, below (goal.at.overflow_add-at c).In-loop-r, c.requires.3)
 
 pub value_at-v-requires : goal.value_at-v-requires
 value_at-v-requires c =
     let a = c.args in
     let r = c.loop-r.r in
-    omega (arith, cell_end a.c (place_of a.order.now r) a.k a.m a.s (c.requires.4.within r (within c.before)) c.requires.1, c.requires.2)
+    omega (arith, cell_end a.c (place_of a.order.now r) a.k a.m a.s (c.requires.4.within r (within (goal.at.value_at-v-requires c).In-loop-r)) c.requires.1, c.requires.2)
 
 pub loop-r-preserved : goal.loop-r-preserved
 loop-r-preserved c =
     let a = c.args in
     let l = c.loop-r in
-    let in_rows = within c.before.before.before.before in
+    let in_rows = within (goal.at.loop-r-preserved c).In-loop-r in
     let call = c.at_least in
     -- what the call compares, in terms of the rows
     let asked : (ns : List ℕ) → length ns ≡ a.m * a.s

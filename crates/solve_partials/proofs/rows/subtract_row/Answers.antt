@@ -17,6 +17,7 @@ use Rattle.solve_partials.specs.Held.{held, valued}
 use Rattle.solve_partials.proofs.Cells.{room-kept}
 use Rattle.solve_partials.proofs.Turns.{inside, lessened, lessened_start, lessened_end, lessened_value, lessened_next}
 use Rattle.solve_partials.proofs.rows.subtract_row.Goals as goal
+use Rattle.solve_partials.proofs.rows.subtract_row.Goals.{After-reduce_cell-arg-in-loop-k-1}
 
 -- the slices once the loop is at k
 record Done (c m s col p t k : ℕ) (f : Dv) (M : List (List Dv)) (rest : List Dv) (g : p < m) (h : t < m) (n : p ≡ t → ⊥) (sh : Shaped m s M) (w : List Float) (ns : List ℕ) (fine : Bool) : Type 0 where
@@ -39,18 +40,16 @@ loop-k-init c =
     )
 
 -- the cells of a turn are there
-cell-t : (c : tie.After-reduce-cell-arg2 invariant-loop decreases-loop) → let a = c.before.before.before.before.before.before.args in a.t * a.s + c.before.before.before.loop.k < a.m * a.s
+cell-t : (c : After-reduce_cell-arg-in-loop-k-1) → let a = c.args in a.t * a.s + c.loop-k.k < a.m * a.s
 cell-t c =
-    let b = c.before.before.before.before.before.before in
-    inside b.args.t _ b.args.m b.args.s b.requires.3 c.before.before.loop-test.true
+    inside c.args.t _ c.args.m c.args.s c.requires.3 c.loop-k-test.true
 
-cell-p : (c : tie.After-reduce-cell-arg2 invariant-loop decreases-loop) → let a = c.before.before.before.before.before.before.args in a.p * a.s + c.before.before.before.loop.k < a.m * a.s
+cell-p : (c : After-reduce_cell-arg-in-loop-k-1) → let a = c.args in a.p * a.s + c.loop-k.k < a.m * a.s
 cell-p c =
-    let b = c.before.before.before.before.before.before in
-    inside b.args.p _ b.args.m b.args.s b.requires.2 c.before.before.loop-test.true
+    inside c.args.p _ c.args.m c.args.s c.requires.2 c.loop-k-test.true
 
-few : (c : tie.After-reduce-cell-arg2 invariant-loop decreases-loop) → let a = c.before.before.before.before.before.before.args in a.m * a.s ≤ 224
-few c = let b = c.before.before.before.before.before.before in omega (arith, b.requires.0.few, b.requires.1)
+few : (c : After-reduce_cell-arg-in-loop-k-1) → let a = c.args in a.m * a.s ≤ 224
+few c = omega (arith, c.requires.0.few, c.requires.1)
 
 pub overflow_mul-t : goal.overflow_mul-t
 overflow_mul-t c = omega (arith, cell-t c, few c)

@@ -25,9 +25,9 @@ offset_bounds-w-i c = omega (arith, room (goal.at.offset_bounds-w-i c).Start)
 
 pub less-stored-requires : goal.less-stored-requires
 less-stored-requires c =
-    let l = lent-long c.pre.0 c.args.k c.pre.1 in
+    let l = lent-long c.requires.0 c.args.k c.requires.1 in
     let n = c.count-old.ensures in
-    (omega (arith, l, n), omega (arith, l, c.pre), omega (arith, l, c.pre), omega (arith, l, c.pre.0.narrow), c.pre.4, c.pre.5)
+    (omega (arith, l, n), omega (arith, l, c.requires), omega (arith, l, c.requires), omega (arith, l, c.requires.0.narrow), c.requires.4, c.requires.5)
 
 pub returns : goal.returns
 returns c =
@@ -36,8 +36,8 @@ returns c =
     let H = held a.c a.w.now a.ns.now in
     let v : Dv → Dv = λ x. sub_dv x (mul_dv (valued a.a.now a.na) (valued a.b.now a.nb)) in
     let i = a.k * (a.c + 1) in
-    let old = ap (valued (take (i + (a.c + 1) - i) (drop i a.w.now))) c.count-old.ensures ∙ lent_cell c.pre.0 a.k c.pre.1 in (
-      back_cell c.pre.0 a.k c.pre.1 call.new.0 call.result.count (call.auto.0 ∙ lent-long c.pre.0 a.k c.pre.1) (omega (arith, call.ensures.0, c.count-old.ensures, c.pre))
+    let old = ap (valued (take (i + (a.c + 1) - i) (drop i a.w.now))) c.count-old.ensures ∙ lent_cell c.requires.0 a.k c.requires.1 in (
+      back_cell c.requires.0 a.k c.requires.1 call.new.0 call.result.count (call.auto.0 ∙ lent-long c.requires.0 a.k c.requires.1) (omega (arith, call.ensures.0, c.count-old.ensures, c.requires))
           ∙ ap (set H a.k) (call.ensures.1.0 ∙ ap v old),
       call.ensures.1.1 ∙ ap (λ (x : Dv). fine_dv (v x)) old,
     )

@@ -18,11 +18,11 @@ returns-then-ys-n c = let a = c.args in missing_y a.xs.now a.ys.now a.n (omega a
 
 pub edges-requires : goal.edges-requires
 edges-requires c = record {
-      fact_1 = omega arith;
-      fact_2 = omega arith;
-      fact_3 = omega arith;
-      fact_4 = omega arith;
-    }
+  fact_1 = omega arith;
+  fact_2 = omega arith;
+  fact_3 = omega arith;
+  fact_4 = omega arith;
+}
 
 pub returns : goal.returns
 returns c = let a = c.args in c.edges.ensures ∙ row-length a.xs.now a.ys.now a.n

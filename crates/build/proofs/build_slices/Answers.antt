@@ -22,16 +22,16 @@ few c =
     rw c.controls-m.ensures (controls_few a.form (length a.coords.now / 2))
 
 told : (c : After-either-short) → let a = c.args in
-    c.either-short.result ≡ lacks_room a.form a.coords.now a.control.now a.knots-out.now
+    c.either-short.result ≡ lacks_room a.form a.coords.now a.control.now a.knots_out.now
 told c =
     let a = c.args in
     c.either-short.ensures
-    ∙ ap (λ (n : ℕ). ltb (length a.control.now) (2 * n) || ltb (length a.knots-out.now) (n + 4)) c.controls-m.ensures
+    ∙ ap (λ (n : ℕ). ltb (length a.control.now) (2 * n) || ltb (length a.knots_out.now) (n + 4)) c.controls-m.ensures
 
 few-points : (c : After-build_with-b) → c.build_with-b.result.curve.points ≤ 66
 few-points c =
     let a = c.args in
-    points-few a.form a.coords.now a.given a.knots.now a.work.now a.control.now a.knots-out.now
+    points-few a.form a.coords.now a.given a.knots.now a.work.now a.control.now a.knots_out.now
     (told c.before.before) c.build_with-b.ensures
 
 pub overflow_mul-m : goal.overflow_mul-m
@@ -53,5 +53,5 @@ returns c =
     let put =
     put_front c.in_turn-points.result n a.control.now c.in_turn-points.ensures.n_in_bounds
     ∙ ap (λ (l : List Float). pasted l n a.control.now 0) c.in_turn-points.ensures.result_value in
-    in_slices_lem a.form a.coords.now a.given a.knots.now a.work.now a.control.now a.knots-out.now
+    in_slices_lem a.form a.coords.now a.given a.knots.now a.work.now a.control.now a.knots_out.now
     (told (goal.at.returns c).After-either-short) c.build_with-b.ensures (c.put.ensures ∙ put) c.put-2.ensures

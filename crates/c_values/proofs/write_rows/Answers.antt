@@ -27,7 +27,7 @@ whole h l = omega arith
 pub loop-i-init : goal.loop-i-init
 loop-i-init c =
     let a = c.args in
-    let value = value_of a.t1 in
+    let value = value_of a.rows in
     (refl, refl, zero-le, none-listed value a.out.now, paste-zero a.counts.now 0 (listed 0 20 (λ j. (value j).n)))
 
 pub bounds-counts-i : goal.bounds-counts-i
@@ -40,7 +40,7 @@ loop-i-smaller c = less c.loop-i.i c.loop-i-test.true
 pub loop-i-preserved : goal.loop-i-preserved
 loop-i-preserved c =
     let a = c.args in
-    let value = value_of a.t1 in
+    let value = value_of a.rows in
     let i = c.loop-i.i in
     let place : 28 * i ≡ 28 * length (listed 0 i value) = rw (length-listed 0 i value) in (
       omega arith,

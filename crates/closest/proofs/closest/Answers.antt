@@ -16,13 +16,13 @@ use Rattle.closest.proofs.closest.Goals.{After-check_with-r, Else-r-ne0}
 
 -- what the check tells
 known : (c : After-check_with-r) → let a = c.args in
-    c.check_with-r.result ≡ first_of (with11 (either_wild a.px a.py) (by_record a.t1).rules)
+    c.check_with-r.result ≡ first_of (with11 (either_wild a.px a.py) (by_record a.c).rules)
 known c = c.check_with-r.ensures ∙ ap (λ (w : Bool). first_of (with11 w (by_record c.args.c).rules)) c.either_wild-wild.ensures
 
 passed : (c : Else-r-ne0) → Passed (by_record c.args.c).rules
 passed c =
     let a = c.args in
-    (with_passed (either_wild a.px a.py) _ (record_sound a.t1).counted (number_of (sym (known c.before.before)) ∙ c.if-r-ne0.false)).1
+    (with_passed (either_wild a.px a.py) _ (record_sound a.c).counted (number_of (sym (known c.before.before)) ∙ c.if-r-ne0.false)).1
 
 pub returns-then-r-ne0 : goal.returns-then-r-ne0
 unfolding closest_answer

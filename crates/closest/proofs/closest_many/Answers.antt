@@ -13,30 +13,30 @@ passed c = number_of (sym c.check-r.ensures) ∙ c.if-r-ne0.false
 pub returns-then-points-ne0 : goal.returns-then-points-ne0
 returns-then-points-ne0 c =
     let a = c.args in
-    odd_points (by_record a.t1) (record_sound a.t1).counted a.points.now a.out.now a.refusals.now c.if-points-ne0.true c.by.ensures
+    odd_points (by_record a.c) (record_sound a.c).counted a.points.now a.out.now a.refusals.now c.if-points-ne0.true c.by.ensures
 
 pub returns-then-r-ne0 : goal.returns-then-r-ne0
 returns-then-r-ne0 c =
     let a = c.args in
-    curve_refused (by_record a.t1) (record_sound a.t1).counted a.points.now a.out.now a.refusals.now c.if-points-ne0.false c.check-r.ensures
+    curve_refused (by_record a.c) (record_sound a.c).counted a.points.now a.out.now a.refusals.now c.if-points-ne0.false c.check-r.ensures
     c.if-r-ne0.true
 
 pub returns-then-q-ne0 : goal.returns-then-q-ne0
 returns-then-q-ne0 c =
     let a = c.args in
-    room_refused (by_record a.t1) (record_sound a.t1).counted a.points.now a.out.now a.refusals.now c.if-points-ne0.false (passed (goal.at.returns-then-q-ne0 c).Else-r-ne0)
+    room_refused (by_record a.c) (record_sound a.c).counted a.points.now a.out.now a.refusals.now c.if-points-ne0.false (passed (goal.at.returns-then-q-ne0 c).Else-r-ne0)
     c.room-q.ensures c.if-q-ne0.true
 
 pub search_each-requires : goal.search_each-requires
 search_each-requires c =
     let a = c.args in record {
-      fact_1 = (record_sound a.t1).knots (passed (goal.at.search_each-requires c).Else-r-ne0);
-      fact_2 = room_for (by_record a.t1) (record_sound a.t1).counted a.points.now a.out.now a.refusals.now c.if-points-ne0.false (passed (goal.at.search_each-requires c).Else-r-ne0)
+      fact_1 = (record_sound a.c).knots (passed (goal.at.search_each-requires c).Else-r-ne0);
+      fact_2 = room_for (by_record a.c) (record_sound a.c).counted a.points.now a.out.now a.refusals.now c.if-points-ne0.false (passed (goal.at.search_each-requires c).Else-r-ne0)
           c.room-q.ensures c.if-q-ne0.false;
     }
 
 pub returns : goal.returns
 returns c =
     let a = c.args in
-    all_found (by_record a.t1) (record_sound a.t1).counted a.points.now a.out.now a.refusals.now c.if-points-ne0.false (passed (goal.at.returns c).Else-r-ne0)
+    all_found (by_record a.c) (record_sound a.c).counted a.points.now a.out.now a.refusals.now c.if-points-ne0.false (passed (goal.at.returns c).Else-r-ne0)
     c.room-q.ensures c.if-q-ne0.false c.search_each.ensures

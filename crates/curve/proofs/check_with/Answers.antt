@@ -6,6 +6,7 @@ use Rattle.meaning.specs.Scalar.{plain}
 use Rattle.polygon.specs.Polygon.{length_of}
 use Rattle.curve.specs.Record.{is_sum}
 use Rattle.curve.proofs.Recheck.{shape_refused, point_refused, length_refused, length-kept}
+use mathlib.Core.Bool.{not}
 use Rattle.curve.proofs.check_with.Goals as goal
 use Rattle.curve.proofs.check_with.Goals.{After-is_sum}
 
@@ -23,8 +24,8 @@ returns-then-wild c =
 pub returns-then-not-is_sum : goal.returns-then-not-is_sum
 returns-then-not-is_sum c =
     c.by-then-not-is_sum.ensures
-    ∙ length_refused _ _ _ c.args.wild c.check-r.ensures c.if-r-ne0.false c.if-wild.false (judged (goal.at.returns-then-not-is_sum c).After-is_sum (not-true _ c.if-not-is_sum.true))
+    ∙ length_refused _ _ _ c.args.wild c.check-r.ensures c.if-r-ne0.false c.if-wild.false (judged (goal.at.returns-then-not-is_sum c).After-is_sum (not-true _ (ap not c.if-not-is_sum.true)))
 
 pub returns : goal.returns
 returns c =
-    length-kept _ _ _ c.args.wild c.check-r.ensures c.if-r-ne0.false c.if-wild.false (judged (goal.at.returns c).After-is_sum (not-false _ c.if-not-is_sum.false))
+    length-kept _ _ _ c.args.wild c.check-r.ensures c.if-r-ne0.false c.if-wild.false (judged (goal.at.returns c).After-is_sum (not-false _ (ap not c.if-not-is_sum.false)))

@@ -13,7 +13,7 @@ loop-j-init c = first (omega arith)
 pub loop-j-preserved : goal.loop-j-preserved
 loop-j-preserved c =
     let a = c.args in
-    next c.loop-j.invariant (omega arith) (weigh_turn plain a.a.now a.t2 c.loop-j.j c.loop-j.s)
+    next c.loop-j.invariant (omega arith) (weigh_turn plain a.a.now a.row c.loop-j.j c.loop-j.s)
 
 pub returns : goal.returns
 unfolding weighted

@@ -11,7 +11,7 @@ use Rattle.fit.proofs.curve_with.Goals.{After-both-fine}
 
 -- the verdict
 abbrev fine : After-both-fine → Bool
-fine c = let a = c.args in not (some_wild a.t2 70) && (a.stored && a.s.fine)
+fine c = let a = c.args in not (some_wild a.u 70) && (a.stored && a.s.fine)
 
 judged : (c : After-both-fine) → c.both-fine.result ≡ fine c
 judged c = c.both-fine.ensures ∙ (λ i. not (ltb (c.first_wild-wild.ensures i) 70) && c.both.ensures i)
@@ -25,4 +25,4 @@ first_wild-wild-requires c = search rules
 pub returns : goal.returns
 returns c =
     let a = c.args in
-    c.measured.ensures ∙ ap (λ (t : Bool). measuring t (curve_over a.m a.t2 a.s.xs a.s.ys)) (judged (goal.at.returns c).After-both-fine)
+    c.measured.ensures ∙ ap (λ (t : Bool). measuring t (curve_over a.m a.u a.s.xs a.s.ys)) (judged (goal.at.returns c).After-both-fine)

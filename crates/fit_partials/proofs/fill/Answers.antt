@@ -57,7 +57,7 @@ system_row-requires c =
     let room = room_part a.c 0 ((a.n + 2) * s4) (l.r * s4) s4 p.3 (omega (arith, e)) l.inv.0.doubles l.inv.0.bytes in
     let station = c.station.ensures in record {
       fact_1 = (p.0, p.1, t, p.2, ready.points, c.span-i.ensures.fact_2.1.0, omega (arith, high (goal.at.system_row-requires c).After-span-i), room);
-      fact_2 = (window_tidy a.c a.t4 c.span-i.result ready.knots, ready.parameters c.station.result station.1);
+      fact_2 = (window_tidy a.c a.k c.span-i.result ready.knots, ready.parameters c.station.result station.1);
     }
 
 pub loop-r-preserved : goal.loop-r-preserved
@@ -67,8 +67,8 @@ loop-r-preserved c =
     let t = c.loop-r-test.true in
     let station = c.station.ensures in
     let span = c.span-i.ensures in
-    let row = row-found a.c a.n l.r a.t4 a.u.now a.t6 a.q.now _ t span.0 span.1.1.0 span.1.1.1.0 refl
-    (ap (at1 dual a.t6) station.0) c.requires.fact_2 c.system_row.ensures in (
+    let row = row-found a.c a.n l.r a.k a.u.now a.p a.q.now _ t span.0 span.1.1.0 span.1.1.1.0 refl
+    (ap (at1 dual a.p) station.0) c.requires.fact_2 c.system_row.ensures in (
       laid-row a.c (a.n + 2) (a.n + 2 + 2) l.r _ (found_shaped _ _ _ _ _) t l.inv.0 row.0,
       every_next _ l.r l.inv.1 row.1 c.both-fine.ensures,
       omega arith,

@@ -17,7 +17,7 @@ pub loop-k-preserved : goal.loop-k-preserved
 loop-k-preserved c =
     let l = c.loop-k in
     let a = c.args in
-    let st = at1 dual a.t1 in
+    let st = at1 dual a.s in
     let sum = c.add-next.ensures ∙ sum_turn dual st l.k l.sum l.invariant.0 l.invariant.2 in
     let e : l.k + 1 - 1 ≡ l.k = omega arith in
     let b = c.loop-k-test.true in
@@ -30,4 +30,4 @@ returns c =
     let a = c.args in
     let e : l.k ≡ a.n - 1 = omega arith in
     let f : a.n - 1 + 1 ≡ a.n = omega arith in
-    rw f at (filled (rw e at l.invariant.3) (omega arith) (c.cst-one.ensures ∙ parameter_last dual (at1 dual a.t1) a.n (omega arith)))
+    rw f at (filled (rw e at l.invariant.3) (omega arith) (c.cst-one.ensures ∙ parameter_last dual (at1 dual a.s) a.n (omega arith)))

@@ -23,7 +23,7 @@ pub loop-k-preserved : goal.loop-k-preserved
 loop-k-preserved c =
     let l = c.loop-k in
     let a = c.args in
-    let four = at1 dual a.t5 in (
+    let four = at1 dual a.four in (
       stored_join a.c a.at l.k 1 four (λ j. four l.k) l.invariant.0 c.store.ensures
           (λ j h. let e : l.k ≡ l.k + j = omega arith in ap four e) c.both-fine.ensures,
       omega arith,

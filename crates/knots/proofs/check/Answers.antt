@@ -4,6 +4,8 @@ use mathlib.Core.Bool.{false}
 use mathlib.Core.List.{[]}
 use borrow.Author.Tests.{not-true, not-false}
 use Rattle.knots.proofs.Refused.{check_refused, check_unlisted, check_fit, check_room, check_list}
+use mathlib.Core.Path.{ap}
+use mathlib.Core.Bool.{not}
 use Rattle.knots.proofs.check.Goals as goal
 
 pub returns-then-r-ne0 : goal.returns-then-r-ne0
@@ -11,7 +13,7 @@ returns-then-r-ne0 c = check_refused _ _ _ _ c.refused_handles-r.ensures c.if-r-
 
 pub returns-then-not-given : goal.returns-then-not-given
 returns-then-not-given c =
-    c.by.ensures ∙ check_unlisted _ _ _ _ c.refused_handles-r.ensures c.if-r-ne0.false (not-true _ c.if-not-given.true)
+    c.by.ensures ∙ check_unlisted _ _ _ _ c.refused_handles-r.ensures c.if-r-ne0.false (not-true _ (ap not c.if-not-given.true))
 
 pub refused_list-requires : goal.refused_list-requires
 refused_list-requires c =
@@ -19,8 +21,8 @@ refused_list-requires c =
 
 pub returns-in-Control : goal.returns-in-Control
 returns-in-Control c =
-    check_list _ _ _ _ c.refused_handles-r.ensures (not-false _ c.if-not-given.false) c.enum_told-1.given.1 c.refused_list.ensures
+    check_list _ _ _ _ c.refused_handles-r.ensures (not-false _ (ap not c.if-not-given.false)) c.enum_told-1.given.1 c.refused_list.ensures
 
 pub returns-in-Fit : goal.returns-in-Fit
 returns-in-Fit c =
-    c.by-in-Fit.ensures ∙ check_fit _ _ _ _ c.refused_handles-r.ensures c.if-r-ne0.false (not-false _ c.if-not-given.false) c.enum_told-in-Fit-1.given.1
+    c.by-in-Fit.ensures ∙ check_fit _ _ _ _ c.refused_handles-r.ensures c.if-r-ne0.false (not-false _ (ap not c.if-not-given.false)) c.enum_told-in-Fit-1.given.1

@@ -14,6 +14,7 @@ use Rattle.shape.proofs.Handles.{numbered-handles, slices_accepted}
 use Rattle.curve.specs.Record.{length_in}
 use Rattle.measure.specs.Measure.{length_answer}
 use Rattle.measure.proofs.Walked.{turn_length}
+use mathlib.Core.Bool.{not}
 use Rattle.measure.proofs.length_slices.Goals as goal
 use Rattle.measure.proofs.length_slices.Goals.{After-length_in_turn-length, Else-r-ne0}
 
@@ -35,7 +36,7 @@ unfolding length_answer
 returns-then-not-is_finite c =
     tells
     (after-told (handle_rules Control _ true _) (numbered-handles Control _ true _) (passed (goal.at.returns-then-not-is_finite c).Else-r-ne0)
-    (stop_told 14 c.by.ensures (not_told (c.is_finite.ensures ∙ ap finite (sum_is (goal.at.returns-then-not-is_finite c).After-length_in_turn-length)) c.if-not-is_finite.true)))
+    (stop_told 14 c.by.ensures (not_told (c.is_finite.ensures ∙ ap finite (sum_is (goal.at.returns-then-not-is_finite c).After-length_in_turn-length)) (ap not c.if-not-is_finite.true))))
 
 pub returns : goal.returns
 unfolding length_answer
@@ -43,4 +44,4 @@ returns c =
     ap (λ (x : Float). record { refusal = none; values = x ∷ [] }) (sum_is (goal.at.returns c).After-length_in_turn-length)
     ∙ tells
     (after-told (handle_rules Control _ true _) (numbered-handles Control _ true _) (passed (goal.at.returns c).Else-r-ne0)
-    (pass_told 15 (not_told (c.is_finite.ensures ∙ ap finite (sum_is (goal.at.returns c).After-length_in_turn-length)) c.if-not-is_finite.false) done-told))
+    (pass_told 15 (not_told (c.is_finite.ensures ∙ ap finite (sum_is (goal.at.returns c).After-length_in_turn-length)) (ap not c.if-not-is_finite.false)) done-told))

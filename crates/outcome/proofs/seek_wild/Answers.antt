@@ -14,10 +14,10 @@ pub returns-then-i-a : goal.returns-then-i-a
 returns-then-i-a c = found c.loop-i.invariant (omega arith) (past c.args.a.now c.loop-i.i (omega arith))
 
 pub returns-then-not-is_finite : goal.returns-then-not-is_finite
-returns-then-not-is_finite c = found c.loop-i.invariant (omega arith) (ap not (sym c.is_finite.ensures) ∙ c.if-not-is_finite.true)
+returns-then-not-is_finite c = found c.loop-i.invariant (omega arith) (ap not (sym c.is_finite.ensures) ∙ (ap not c.if-not-is_finite.true))
 
 pub loop-i-preserved : goal.loop-i-preserved
-loop-i-preserved c = onward c.loop-i.invariant (omega arith) (ap not (sym c.is_finite.ensures) ∙ c.if-not-is_finite.false)
+loop-i-preserved c = onward c.loop-i.invariant (omega arith) (ap not (sym c.is_finite.ensures) ∙ (ap not c.if-not-is_finite.false))
 
 pub returns : goal.returns
 returns c = ended c.loop-i.invariant (omega arith)

@@ -1,16 +1,8 @@
 -- `points::answer_each` meets its contract: a turn answers one parameter.
 use native.Mathlib.Omega.{arith}
-use mathlib.Core.List.{List}
-use Prim.Native.Nat.{ℕ, ◌-◌}
-use lib.Ieee.{Float}
-use Rattle.meaning.specs.Scalar.{plain}
-use Rattle.span.specs.Counting.{counted_of}
-use Rattle.evaluate.specs.Point.{orders_of}
+use Prim.Native.Nat.{◌-◌}
 use Rattle.points.proofs.Turns.{turned_first, turned_fits, turned_next, turned_all}
 use Rattle.points.proofs.answer_each.Goals as goal
-
-abbrev orders : List Float → ℕ → List Float → List Float → ℕ → Float → List Float
-orders u n xs ys order t = orders_of plain (counted_of u n) (record { n = n; xs = xs; ys = ys; knots = u }) t order
 
 pub loop-k-init : goal.loop-k-init
 loop-k-init c = turned_first (omega arith)

@@ -1,14 +1,8 @@
 -- `points::answer_each_slices` meets its contract: a turn answers one parameter.
 use native.Mathlib.Omega.{arith}
-use mathlib.Core.List.{List}
-use Prim.Native.Nat.{ℕ, ◌-◌}
-use lib.Ieee.{Float}
-use Rattle.evaluate.specs.Piece.{slice_orders}
+use Prim.Native.Nat.{◌-◌}
 use Rattle.points.proofs.Turns.{turned_first, turned_fits, turned_next, turned_all}
 use Rattle.points.proofs.answer_each_slices.Goals as goal
-
-abbrev orders : List Float → List Float → ℕ → Float → List Float
-orders coords ks order t = slice_orders coords ks t order
 
 pub loop-k-init : goal.loop-k-init
 loop-k-init c = turned_first (omega arith)

@@ -13,14 +13,14 @@ use Rattle.points.proofs.evaluate_many.Goals as goal
 pub returns-then-r-ne0 : goal.returns-then-r-ne0
 returns-then-r-ne0 c =
     let a = c.args in
-    let who = by_record a.t1 in
+    let who = by_record a.c in
     refused_points who a.ts.now a.order a.out.now a.refusals.now c.if-r-ne0.true
     (points_refused who a.ts.now a.order a.out.now a.refusals.now c.check-r.ensures c.if-r-ne0.true)
 
 pub returns-then-q-ne0 : goal.returns-then-q-ne0
 returns-then-q-ne0 c =
     let a = c.args in
-    let who = by_record a.t1 in
+    let who = by_record a.c in
     refused_points who a.ts.now a.order a.out.now a.refusals.now c.if-q-ne0.true
     (call_refused who a.ts.now a.order a.out.now a.refusals.now (record_sound _)
     (number_of (sym c.check-r.ensures) ∙ c.if-r-ne0.false) c.check_call-q.ensures c.if-q-ne0.true)
@@ -33,8 +33,8 @@ answer_each-requires c =
 pub returns : goal.returns
 returns c =
     let a = c.args in
-    let who = by_record a.t1 in
+    let who = by_record a.c in
     points_promised who a.ts.now a.order a.out.now a.refusals.now (record_sound _)
     (points-answered who a.ts.now a.order a.out.now a.refusals.now (record_sound _)
     (number_of (sym c.check-r.ensures) ∙ c.if-r-ne0.false) c.check_call-q.ensures c.if-q-ne0.false c.answer_each.ensures)
-    (λ j h. typed a.t1 _ c.well_formed.0 (at1 plain a.ts.now j) (c.shared_slice_known-1.given j))
+    (λ j h. typed a.c _ c.well_formed.0 (at1 plain a.ts.now j) (c.shared_slice_known-1.given j))

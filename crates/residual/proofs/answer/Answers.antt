@@ -5,6 +5,7 @@ use Rattle.partials.specs.Dual.{dual}
 use Rattle.outcome.proofs.Doors.{stop, pass, done, not_told}
 use Rattle.solve.specs.Stored.{all_fine}
 use Rattle.residual.specs.Piece.{in_order}
+use mathlib.Core.Bool.{not}
 use Rattle.residual.proofs.answer.Goals as goal
 use Rattle.residual.proofs.answer.Goals.{After-both}
 
@@ -14,10 +15,10 @@ judged c = let a = c.args in c.both.ensures ∙ ap (λ (b : Bool). a.fine && b) 
 
 pub returns-then-not-both : goal.returns-then-not-both
 returns-then-not-both c =
-    let h = not_told (judged (goal.at.returns-then-not-both c).After-both) c.if-not-both.true in
+    let h = not_told (judged (goal.at.returns-then-not-both c).After-both) (ap not c.if-not-both.true) in
     (stop 14 c.by.ensures h, stop 14 c.by.ensures h)
 
 pub returns : goal.returns
 returns c =
-    let h = not_told (judged (goal.at.returns c).After-both) c.if-not-both.false in
+    let h = not_told (judged (goal.at.returns c).After-both) (ap not c.if-not-both.false) in
     (pass 15 h (done c.by-2.ensures c.write_values.ensures), pass 15 h (done c.by-2.ensures c.write_rows.ensures))

@@ -27,7 +27,7 @@ pub returns : goal.returns
 unfolding samples_answer samples_of
 returns c =
     let a = c.args in
-    let k = length (samples_of (by_record a.t1).shape a.per) in
+    let k = length (samples_of (by_record a.c).shape a.per) in
     c.answer_samples.ensures
     ∙ ap (λ (o : Outcome). counting o k a.count.now)
-    (leaves (after (by_record a.t1).rules (record_sound a.t1).counted (number_of (sym c.check-r.ensures) ∙ c.if-r-ne0.false) (record { is = refl })))
+    (leaves (after (by_record a.c).rules (record_sound a.c).counted (number_of (sym c.check-r.ensures) ∙ c.if-r-ne0.false) (record { is = refl })))

@@ -14,12 +14,12 @@ pub returns-then-not-lies_within : goal.returns-then-not-lies_within
 unfolding digits_at
 returns-then-not-lies_within c =
     let l = c.loop-i in
-    found l.invariant (omega arith) (ap not (ap is_decimal (sym c.byte.ensures) ∙ sym c.lies_within.ensures) ∙ c.if-not-lies_within.true)
+    found l.invariant (omega arith) (ap not (ap is_decimal (sym c.byte.ensures) ∙ sym c.lies_within.ensures) ∙ (ap not c.if-not-lies_within.true))
 
 pub loop-i-preserved : goal.loop-i-preserved
 loop-i-preserved c =
     let l = c.loop-i in
-    onward l.invariant (omega arith) (ap not (ap is_decimal (sym c.byte.ensures) ∙ sym c.lies_within.ensures) ∙ c.if-not-lies_within.false)
+    onward l.invariant (omega arith) (ap not (ap is_decimal (sym c.byte.ensures) ∙ sym c.lies_within.ensures) ∙ (ap not c.if-not-lies_within.false))
 
 pub returns : goal.returns
 unfolding digits_at

@@ -3,6 +3,8 @@ use native.Mathlib.Omega.{arith}
 use borrow.Author.Tests.{not-true, not-false}
 use Rattle.sheet_read.proofs.Numerals.{few_digits, no_count, led_by_zero, too_many_lem, line_ends}
 use Prim.Native.Nat.{◌≤◌}
+use mathlib.Core.Path.{ap}
+use mathlib.Core.Bool.{not}
 use Rattle.sheet_read.proofs.has_count.Goals as goal
 use Rattle.sheet_read.proofs.has_count.Goals.{After-digits-d}
 
@@ -14,14 +16,14 @@ returns-then-d-lt1 c = no_count _ _ _ c.digits-d.ensures c.if-d-lt1.true
 
 pub returns-then-not-leads_well : goal.returns-then-not-leads_well
 returns-then-not-leads_well c =
-    led_by_zero _ _ _ c.digits-d.ensures c.if-d-lt1.false c.leads_well.ensures (not-true _ c.if-not-leads_well.true)
+    led_by_zero _ _ _ c.digits-d.ensures c.if-d-lt1.false c.leads_well.ensures (not-true _ (ap not c.if-not-leads_well.true))
 
 pub number-requires : goal.number-requires
 number-requires c = omega (arith, few (goal.at.number-requires c).After-digits-d)
 
 pub returns-then-number-most : goal.returns-then-number-most
 returns-then-number-most c =
-    too_many_lem _ _ _ c.digits-d.ensures c.if-d-lt1.false c.leads_well.ensures (not-false _ c.if-not-leads_well.false) c.number.ensures c.if-number-most.true
+    too_many_lem _ _ _ c.digits-d.ensures c.if-d-lt1.false c.leads_well.ensures (not-false _ (ap not c.if-not-leads_well.false)) c.number.ensures c.if-number-most.true
 
 pub overflow_add-at : goal.overflow_add-at
 overflow_add-at c = omega (arith, few (goal.at.overflow_add-at c).After-digits-d)
@@ -29,4 +31,4 @@ overflow_add-at c = omega (arith, few (goal.at.overflow_add-at c).After-digits-d
 pub returns : goal.returns
 returns c =
     rw c.byte.ensures
-    (line_ends _ _ _ c.digits-d.ensures c.if-d-lt1.false c.leads_well.ensures (not-false _ c.if-not-leads_well.false) c.number.ensures c.if-number-most.false)
+    (line_ends _ _ _ c.digits-d.ensures c.if-d-lt1.false c.leads_well.ensures (not-false _ (ap not c.if-not-leads_well.false)) c.number.ensures c.if-number-most.false)

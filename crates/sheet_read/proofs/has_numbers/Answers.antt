@@ -6,6 +6,8 @@ use borrow.Author.Tests.{not-true, not-false}
 use Rattle.sheet_read.specs.Number.{double_stands}
 use Rattle.sheet_read.specs.Grammar.{byte_after, number_place, numbers_stand}
 use Rattle.meaning.proofs.Every.{start as start_of, on, fails, holds}
+use mathlib.Core.Path.{ap}
+use mathlib.Core.Bool.{not}
 use Rattle.sheet_read.proofs.has_numbers.Goals as goal
 use Rattle.sheet_read.proofs.has_numbers.Goals.{After-has_hex}
 
@@ -22,12 +24,12 @@ pub returns-then-not-has_hex : goal.returns-then-not-has_hex
 unfolding numbers_stand
 returns-then-not-has_hex c =
     let l = c.loop-j in
-    fails l.invariant (omega arith) (sym (tested (goal.at.returns-then-not-has_hex c).After-has_hex) ∙ not-true _ c.if-not-has_hex.true)
+    fails l.invariant (omega arith) (sym (tested (goal.at.returns-then-not-has_hex c).After-has_hex) ∙ not-true _ (ap not c.if-not-has_hex.true))
 
 pub loop-j-preserved : goal.loop-j-preserved
 loop-j-preserved c =
     let l = c.loop-j in
-    on l.invariant (omega arith) (sym (tested (goal.at.loop-j-preserved c).After-has_hex) ∙ not-false _ c.if-not-has_hex.false)
+    on l.invariant (omega arith) (sym (tested (goal.at.loop-j-preserved c).After-has_hex) ∙ not-false _ (ap not c.if-not-has_hex.false))
 
 pub returns : goal.returns
 unfolding numbers_stand

@@ -6,6 +6,8 @@ use native.Mathlib.Omega.{arith}
 use borrow.Author.Tests.{not-true, not-false}
 use Rattle.sheet_read.proofs.Numerals.{few_digits}
 use Rattle.sheet_read.proofs.Sections.{no_word, no_count, no_numbers, whole, few-numbers}
+use mathlib.Core.Path.{ap}
+use mathlib.Core.Bool.{not}
 use Rattle.sheet_read.proofs.read_section.Goals as goal
 use Rattle.sheet_read.proofs.read_section.Goals.{After-number-count}
 
@@ -16,17 +18,17 @@ few c = rw c.digits-d.ensures (few_digits _ _)
 small : (c : After-number-count) → c.args.per * c.number-count.result ≤ 1024
 small c =
     le_trans
-    (few-numbers _ _ c.args.most c.args.per _ (sym c.has_word.ensures ∙ not-false _ c.if-not-has_word.false)
-    (sym c.has_count.ensures ∙ not-false _ c.if-not-has_count.false) c.digits-d.ensures c.number-count.ensures)
+    (few-numbers _ _ c.args.most c.args.per _ (sym c.has_word.ensures ∙ not-false _ (ap not c.if-not-has_word.false))
+    (sym c.has_count.ensures ∙ not-false _ (ap not c.if-not-has_count.false)) c.digits-d.ensures c.number-count.ensures)
     c.requires.fact_1.1
 
 pub returns-then-not-has_word : goal.returns-then-not-has_word
-returns-then-not-has_word c = c.missing.ensures ∙ no_word _ _ _ _ _ (sym c.has_word.ensures ∙ not-true _ c.if-not-has_word.true)
+returns-then-not-has_word c = c.missing.ensures ∙ no_word _ _ _ _ _ (sym c.has_word.ensures ∙ not-true _ (ap not c.if-not-has_word.true))
 
 pub returns-then-not-has_count : goal.returns-then-not-has_count
 returns-then-not-has_count c =
     c.missing-then-not-has_count.ensures
-    ∙ no_count _ _ _ _ _ (sym c.has_word.ensures ∙ not-false _ c.if-not-has_word.false) (sym c.has_count.ensures ∙ not-true _ c.if-not-has_count.true)
+    ∙ no_count _ _ _ _ _ (sym c.has_word.ensures ∙ not-false _ (ap not c.if-not-has_word.false)) (sym c.has_count.ensures ∙ not-true _ (ap not c.if-not-has_count.true))
 
 pub number-count-requires : goal.number-count-requires
 number-count-requires c =
@@ -48,8 +50,8 @@ has_numbers-requires c = omega (arith, few c, small c)
 pub returns-then-not-has_numbers : goal.returns-then-not-has_numbers
 returns-then-not-has_numbers c =
     c.missing-then-not-has_numbers.ensures
-    ∙ no_numbers _ _ _ _ _ (sym c.has_word.ensures ∙ not-false _ c.if-not-has_word.false) (sym c.has_count.ensures ∙ not-false _ c.if-not-has_count.false)
-    c.digits-d.ensures c.number-count.ensures (sym c.has_numbers.ensures ∙ not-true _ c.if-not-has_numbers.true)
+    ∙ no_numbers _ _ _ _ _ (sym c.has_word.ensures ∙ not-false _ (ap not c.if-not-has_word.false)) (sym c.has_count.ensures ∙ not-false _ (ap not c.if-not-has_count.false))
+    c.digits-d.ensures c.number-count.ensures (sym c.has_numbers.ensures ∙ not-true _ (ap not c.if-not-has_numbers.true))
 
 pub overflow_mul-result : goal.overflow_mul-result
 overflow_mul-result c = omega (arith, small (goal.at.overflow_mul-result c).After-number-count)
@@ -59,5 +61,5 @@ overflow_add-result c = omega (arith, few (goal.at.overflow_add-result c).After-
 
 pub returns : goal.returns
 returns c =
-    whole _ _ _ _ _ (sym c.has_word.ensures ∙ not-false _ c.if-not-has_word.false) (sym c.has_count.ensures ∙ not-false _ c.if-not-has_count.false)
-    c.digits-d.ensures c.number-count.ensures (sym c.has_numbers.ensures ∙ not-false _ c.if-not-has_numbers.false)
+    whole _ _ _ _ _ (sym c.has_word.ensures ∙ not-false _ (ap not c.if-not-has_word.false)) (sym c.has_count.ensures ∙ not-false _ (ap not c.if-not-has_count.false))
+    c.digits-d.ensures c.number-count.ensures (sym c.has_numbers.ensures ∙ not-false _ (ap not c.if-not-has_numbers.false))

@@ -7,6 +7,7 @@ use Rattle.sheet_read.specs.declared.Sheet.{Sheet}
 use Rattle.sheet_read.proofs.Sections.{Limits, limits}
 use Rattle.sheet_text.specs.Promise.{ReadPromise}
 use Rattle.sheet_text.proofs.Sheets.{no_room_lem, malformed, well_formed}
+use mathlib.Core.Bool.{not}
 use Rattle.sheet_text.proofs.answer.Goals as goal
 
 pub returns-then-out-lt36876 : goal.returns-then-out-lt36876
@@ -14,7 +15,7 @@ returns-then-out-lt36876 c = (no_room_lem _ _ _ c.if-out-lt36876.true, λ f. abs
 
 pub returns-then-not-x : goal.returns-then-not-x
 returns-then-not-x c =
-    let g = ap (λ (x : Sheet). x.formed) (sym c.read_sheet-x.ensures) ∙ not-true _ c.if-not-x.true in (
+    let g = ap (λ (x : Sheet). x.formed) (sym c.read_sheet-x.ensures) ∙ not-true _ (ap not c.if-not-x.true) in (
       malformed _ _ _ c.if-out-lt36876.false g c.by.ensures c.put_refusal.ensures,
       λ _ h. absurd (true≢false (sym h ∙ g)),
     )
@@ -29,6 +30,6 @@ pub returns : goal.returns
 returns c =
     let a = c.args in
     let e = c.answer_sheet.ensures in (
-      well_formed _ _ _ c.if-out-lt36876.false c.read_sheet-x.ensures (not-false _ c.if-not-x.false) e.0 e.1.0,
+      well_formed _ _ _ c.if-out-lt36876.false c.read_sheet-x.ensures (not-false _ (ap not c.if-not-x.false)) e.0 e.1.0,
       λ _ _. subst (λ (x : Sheet). ReadPromise a.s.now x a.work.now) c.read_sheet-x.ensures e.1.1,
     )

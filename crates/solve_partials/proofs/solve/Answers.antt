@@ -3,22 +3,24 @@ use mathlib.Core.Path.{sym, ◌∙◌}
 use borrow.Author.Tests.{not-true, not-false}
 use Rattle.solve_partials.specs.Outcome.{solution_in, doubles_left, counts_left}
 use Rattle.solve_partials.proofs.Outcomes.{fitting}
+use mathlib.Core.Path.{ap}
+use mathlib.Core.Bool.{not}
 use Rattle.solve_partials.proofs.solve.Goals as goal
 
 pub returns-then-not-has_room : goal.returns-then-not-has_room
 unfolding solution_in doubles_left counts_left
 returns-then-not-has_room c =
-    let no = sym c.has_room.ensures ∙ not-true _ c.if-not-has_room.true in
+    let no = sym c.has_room.ensures ∙ not-true _ (ap not c.if-not-has_room.true) in
     (rw no c.unsolved.ensures, (rw no, rw no))
 
 pub solve_front-requires : goal.solve_front-requires
 solve_front-requires c =
-    let f = fitting _ _ _ _ (sym c.has_room.ensures ∙ not-false _ c.if-not-has_room.false) in
+    let f = fitting _ _ _ _ (sym c.has_room.ensures ∙ not-false _ (ap not c.if-not-has_room.false)) in
     (f.few, f.narrow, f.counts, f.room)
 
 pub returns : goal.returns
 unfolding solution_in doubles_left counts_left
 returns c =
     let call = c.solve_front.ensures in
-    let yes = sym c.has_room.ensures ∙ not-false _ c.if-not-has_room.false in
+    let yes = sym c.has_room.ensures ∙ not-false _ (ap not c.if-not-has_room.false) in
     (rw yes call.0, (rw yes call.1.0, rw yes call.1.1))

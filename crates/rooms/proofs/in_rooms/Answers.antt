@@ -23,17 +23,17 @@ few c =
 
 pub every_other-xs-requires : goal.every_other-xs-requires
 every_other-xs-requires c = let f = few c in record {
-      fact_1 = f.0;
-      fact_2 = f.1;
-      fact_3 = omega arith;
-    }
+  fact_1 = f.0;
+  fact_2 = f.1;
+  fact_3 = omega arith;
+}
 
 pub every_other-ys-requires : goal.every_other-ys-requires
 every_other-ys-requires c = let f = few (goal.at.every_other-ys-requires c).After-most-n in record {
-      fact_1 = f.0;
-      fact_2 = f.1;
-      fact_3 = omega arith;
-    }
+  fact_1 = f.0;
+  fact_2 = f.1;
+  fact_3 = omega arith;
+}
 
 -- the numbers of the points that there is room for are those of all
 others : (q : List Float) (n off : ℕ) {l : List Float} → l ≡ every_other q n off → n ≡ min (length q / 2) 66 → l ≡ every_other q (points_in q) off

@@ -2,23 +2,19 @@
 // has the reason, and `hull/proofs/Examples` the same as a theorem.
 #![tactic(auto)]
 
-use libc::STDOUT_FILENO;
+use std::io;
 
 // Writes where the point at 0 lies.
-fn print_point(x: f64, y: f64) {
+fn print_point(rt: &impl Print, x: f64, y: f64) -> io::Result<()> {
     if x == 0.0 {
         if y == 0.0 {
-            io::write_all(
-                STDOUT_FILENO,
-                b"all control points are (1, 1), and the point at 0 is (0, 0)\n",
-            );
-            return;
+            return println!(rt; "all control points are (1, 1), and the point at 0 is (0, 0)");
         }
     }
-    io::write_all(STDOUT_FILENO, b"the point at 0 is not (0, 0)\n");
+    println!(rt; "the point at 0 is not (0, 0)")
 }
 
-fn main() {
+fn main(rt: HostRuntime) -> io::Result<()> {
     let points = [1.0; 8];
     let far = 8.98846567431158e307;
     let knots = [-far, -far, -far, -far, far, far, far, far];
@@ -26,8 +22,8 @@ fn main() {
     let mut out = [1.0; 2];
     let r = point::evaluate(built.curve, 0.0, 0, &mut out);
     if r.number == 0 {
-        print_point(out[0], out[1]);
+        print_point(&rt, out[0], out[1])
     } else {
-        io::write_all(STDOUT_FILENO, b"the point at 0 is refused\n");
+        println!(rt; "the point at 0 is refused")
     }
 }

@@ -6,7 +6,8 @@ ghost use Rattle.std.specs.Prelude.{◌≡◌, true, not};
 ghost use Rattle.std.specs.Float.{binary64};
 ghost use Rattle.std.specs.Float.Ieee.{nan_bits};
 
-use libc::{STDIN_FILENO, STDOUT_FILENO};
+use std::io;
+use std::io::Read;
 
 // Whether a pattern is not that of a NaN: only of such a pattern is a double made.
 fn is_number(bits: u64) -> bool
@@ -22,27 +23,36 @@ fn root_of(x: u64) -> u64
     f64::to_bits(root::root(f64::from_bits(x)))
 }
 
+// Reads until the room is full or the input ends, and answers how many bytes it read.
+fn read_full(rt: &impl Input, room: &mut [u8]) -> io::Result<usize> {
+    let limit = room.len() as u64;
+    let mut rest = room;
+    let n = io::copy(&mut rt.reader().take(limit), &mut rest)?;
+    Ok(n as usize)
+}
+
 // Writes the root of the next line, and answers whether there was one. A line that is cut off ends in zeros here, and is none.
-fn print_next() -> bool {
+fn print_next(rt: &(impl Input + Print)) -> io::Result<bool> {
     let mut line = [0u8; 17];
-    if io::read_full(STDIN_FILENO, &mut line) == 0 {
-        return false;
+    if read_full(rt, &mut line)? == 0 {
+        return Ok(false);
     }
     let x = sheet_read::read_line(&line, 16);
     if x.formed && is_number(x.bits) {
-        io::print_hex(STDOUT_FILENO, root_of(x.bits), 16);
+        print!(rt; "{:016x}", root_of(x.bits))?;
     } else {
-        io::write_all(STDOUT_FILENO, b"?");
+        print!(rt; "?")?;
     }
-    io::write_all(STDOUT_FILENO, b"\n");
-    true
+    println!(rt)?;
+    Ok(true)
 }
 
 // A proved loop has to end and nothing says that the input does, so this one ends at a number of lines that no file reaches.
-fn main() {
+fn main(rt: HostRuntime) -> io::Result<()> {
     for _ in 0..0x100_0000_0000u64 {
-        if !print_next() {
-            return;
+        if !print_next(&rt)? {
+            return Ok(());
         }
     }
+    Ok(())
 }

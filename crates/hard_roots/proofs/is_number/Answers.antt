@@ -3,11 +3,7 @@ use mathlib.Core.Path.{sym, ap}
 use mathlib.Core.Bool.{not}
 use lib.Ieee.{binary64}
 use lib.Ieee.Bits.{nan_bits_above}
-use Rattle.hard_roots.proofs.is_number.Statement.{statement}
-use Rattle.hard_roots.proofs.is_number.Tie as tie
+use Rattle.hard_roots.proofs.is_number.Goals as goal
 
-returns : tie.Need-returns
+pub returns : goal.returns
 returns c = ap not (sym (nan_bits_above binary64 c.args.bits))
-
-pub is-number-spec : {M : Type 1} → statement M
-is-number-spec = tie.close (tie.spec returns)

@@ -1,23 +1,19 @@
--- `partials::joined` meets its contract, arm by arm.
-use mathlib.Core.Path.{◌≡◌, sym, ap}
-use Rattle.partials.specs.declared.Rule.{Rule}
+-- `partials::joined` meets its contract: in an arm the rule is the one that the arm names.
 use Rattle.partials.specs.Rule.{rule_of}
 use Rattle.partials.proofs.joined.Goals as goal
-use Rattle.partials.proofs.joined.Goals.{Start}
-
--- in an arm the rule is the one that the arm names
-same-rule : {o p : Rule} (c : Start) → o ≡ p
-    → rule_of p c.args.a c.args.b c.args.x c.args.y ≡ rule_of o c.args.a c.args.b c.args.x c.args.y
-same-rule c e = ap (λ o. rule_of o c.args.a c.args.b c.args.x c.args.y) (sym e)
 
 pub returns-in-Add : goal.returns-in-Add
-returns-in-Add c = same-rule c.before.before c.enum_told-1.given.1
+unfolding rule_of
+returns-in-Add c = rw c.in-Add.is
 
 pub returns-in-Sub : goal.returns-in-Sub
-returns-in-Sub c = same-rule c.before.before c.enum_told-in-Sub-1.given.1
+unfolding rule_of
+returns-in-Sub c = rw c.in-Sub.is
 
 pub returns-in-Mul : goal.returns-in-Mul
-returns-in-Mul c = same-rule c.before.before c.enum_told-in-Mul-1.given.1
+unfolding rule_of
+returns-in-Mul c = rw c.in-Mul.is
 
 pub returns-in-Div : goal.returns-in-Div
-returns-in-Div c = same-rule c.before.before c.enum_told-in-Div-1.given.1
+unfolding rule_of
+returns-in-Div c = rw c.in-Div.is

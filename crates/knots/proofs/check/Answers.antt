@@ -17,12 +17,12 @@ returns-then-not-given c =
 
 pub refused_list-requires : goal.refused_list-requires
 refused_list-requires c =
-    check_room _ _ false [] c.refused_handles-r.ensures c.if-r-ne0.false c.enum_told-1.given.1
+    check_room _ _ false [] c.refused_handles-r.ensures c.if-r-ne0.false c.in-Control.is
 
 pub returns-in-Control : goal.returns-in-Control
 returns-in-Control c =
-    check_list _ _ _ _ c.refused_handles-r.ensures (not-false _ (ap not c.if-not-given.false)) c.enum_told-1.given.1 c.refused_list.ensures
+    check_list _ _ _ _ c.refused_handles-r.ensures (not-false _ (ap not c.if-not-given.false)) c.in-Control.is c.refused_list.ensures
 
 pub returns-in-Fit : goal.returns-in-Fit
 returns-in-Fit c =
-    c.by-in-Fit.ensures ∙ check_fit _ _ _ _ c.refused_handles-r.ensures c.if-r-ne0.false (not-false _ (ap not c.if-not-given.false)) c.enum_told-in-Fit-1.given.1
+    c.by-in-Fit.ensures ∙ check_fit _ _ _ _ c.refused_handles-r.ensures c.if-r-ne0.false (not-false _ (ap not c.if-not-given.false)) c.in-Fit.is

@@ -7,18 +7,18 @@ pub returns-then-handles-lt2 : goal.returns-then-handles-lt2
 returns-then-handles-lt2 c = c.by.ensures ∙ few _ _ c.if-handles-lt2.true
 
 pub returns-then-handles-lt4 : goal.returns-then-handles-lt4
-returns-then-handles-lt4 c = c.by-then-handles-lt4.ensures ∙ no_cubic_lem _ _ c.if-handles-lt2.false c.enum_told-1.given.1 c.if-handles-lt4.true
+returns-then-handles-lt4 c = c.by-then-handles-lt4.ensures ∙ no_cubic_lem _ _ c.if-handles-lt2.false c.in-Control.is c.if-handles-lt4.true
 
 pub returns-then-handles-gt66 : goal.returns-then-handles-gt66
 returns-then-handles-gt66 c =
-    c.by-then-handles-gt66.ensures ∙ control-many _ _ c.if-handles-lt2.false c.enum_told-1.given.1 c.if-handles-lt4.false c.if-handles-gt66.true
+    c.by-then-handles-gt66.ensures ∙ control-many _ _ c.if-handles-lt2.false c.in-Control.is c.if-handles-lt4.false c.if-handles-gt66.true
 
 pub returns-then-handles-gt64 : goal.returns-then-handles-gt64
-returns-then-handles-gt64 c = c.by-then-handles-gt64.ensures ∙ fit_many _ _ c.if-handles-lt2.false c.enum_told-in-Fit-1.given.1 c.if-handles-gt64.true
+returns-then-handles-gt64 c = c.by-then-handles-gt64.ensures ∙ fit_many _ _ c.if-handles-lt2.false c.in-Fit.is c.if-handles-gt64.true
 
 pub returns-else-handles-gt66 : goal.returns-else-handles-gt66
 returns-else-handles-gt66 c =
-    c.by-in-Control.ensures ∙ control-room _ _ c.if-handles-lt2.false c.enum_told-1.given.1 c.if-handles-lt4.false c.if-handles-gt66.false
+    c.by-in-Control.ensures ∙ control-room _ _ c.if-handles-lt2.false c.in-Control.is c.if-handles-lt4.false c.if-handles-gt66.false
 
 pub returns-else-handles-gt64 : goal.returns-else-handles-gt64
-returns-else-handles-gt64 c = c.by-in-Fit.ensures ∙ fit_room _ _ c.if-handles-lt2.false c.enum_told-in-Fit-1.given.1 c.if-handles-gt64.false
+returns-else-handles-gt64 c = c.by-in-Fit.ensures ∙ fit_room _ _ c.if-handles-lt2.false c.in-Fit.is c.if-handles-gt64.false

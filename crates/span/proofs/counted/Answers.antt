@@ -1,13 +1,12 @@
 -- `span::counted` meets its contract: the knots below knot j are counted.
 use mathlib.Core.Path.{◌≡◌, refl, sym, ap, ◌∙◌}
 use mathlib.Core.Bool.{true, false}
-use mathlib.Core.Logic.{⊎_elim}
 use Prim.Native.Nat.{ℕ, ◌+◌, ◌-◌}
 use native.Mathlib.Omega.{arith}
-use borrow.Author.Tests.{not-true, not-false}
 use Rattle.span.specs.Counting.{reached}
 use Rattle.span.proofs.Spans.{reached_bounds, reached_next, opened}
 use Rattle.span.proofs.counted.Goals as goal
+use Rattle.span.proofs.counted.Goals.{then-not-t-u, else-not-t-u}
 
 pub returns-then-t-u : goal.returns-then-t-u
 returns-then-t-u c =
@@ -39,10 +38,10 @@ pub loop-j-preserved : goal.loop-j-preserved
 loop-j-preserved c =
     let a = c.args in
     let l = c.loop-j in (
-      ⊎_elim
-          (λ w. w.1 ∙ ap (λ (k : ℕ). k + 1) l.invariant.0 ∙ sym (reached_next a.u.now a.t l.j false l.invariant.1 (not-true _ w.0.taken)))
-          (λ w. w.1 ∙ l.invariant.0 ∙ sym (reached_next a.u.now a.t l.j true l.invariant.1 (not-false _ w.0.left)))
-          c.if-not-t-u.branch,
+      elim c.if-not-t-u.branch [
+        | then-not-t-u w ↦ w.k-is ∙ ap (λ (k : ℕ). k + 1) l.invariant.0 ∙ sym (reached_next a.u.now a.t l.j false l.invariant.1 w.if-not-t-u.true)
+        | else-not-t-u w ↦ w.k-is ∙ l.invariant.0 ∙ sym (reached_next a.u.now a.t l.j true l.invariant.1 w.if-not-t-u.false)
+      ],
       omega arith,
       omega arith,
     )

@@ -9,22 +9,22 @@ use Rattle.span.proofs.span.Goals as goal
 pub returns-then-n-lt4 : goal.returns-then-n-lt4
 unfolding counted_of
 returns-then-n-lt4 c = record {
-      fact_1 = rw (lt-ltb _ _ c.if-n-lt4.true);
-      fact_2 = (λ f g up. absurd (omega arith));
-      fact_3 = omega arith;
-      fact_4 = omega arith;
-      fact_5 = λ h. omega arith;
-    }
+  fact_1 = rw (lt-ltb _ _ c.if-n-lt4.true);
+  fact_2 = (λ f g up. absurd (omega arith));
+  fact_3 = omega arith;
+  fact_4 = omega arith;
+  fact_5 = λ h. omega arith;
+}
 
 pub returns-then-n-gt66 : goal.returns-then-n-gt66
 unfolding counted_of
 returns-then-n-gt66 c = record {
-      fact_1 = rw (le-ltb _ _ c.if-n-lt4.false, lt-ltb _ _ c.if-n-gt66.true);
-      fact_2 = (λ f g up. absurd (omega arith));
-      fact_3 = omega arith;
-      fact_4 = omega arith;
-      fact_5 = λ h. omega arith;
-    }
+  fact_1 = rw (le-ltb _ _ c.if-n-lt4.false, lt-ltb _ _ c.if-n-gt66.true);
+  fact_2 = (λ f g up. absurd (omega arith));
+  fact_3 = omega arith;
+  fact_4 = omega arith;
+  fact_5 = λ h. omega arith;
+}
 
 pub returns-then-n-u : goal.returns-then-n-u
 unfolding counted_of

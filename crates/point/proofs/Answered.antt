@@ -12,7 +12,7 @@ use Rattle.knots.specs.declared.Form.TheVariants.{Control}
 use Rattle.span.proofs.Spans.{accepted_span}
 use Rattle.outcome.specs.Outcome.{outcome, answering}
 use Rattle.outcome.proofs.Doors.{leaves, refused, after}
-use Rattle.shape.specs.Shape.{points_in, slice_shape}
+use Rattle.shape.specs.Shape.{slice_shape}
 use Rattle.shape.specs.Rules.{handle_rules}
 use Rattle.shape.specs.Offered.{Offered}
 use Rattle.shape.proofs.Handles.{slices_accepted}

@@ -122,18 +122,19 @@ module _ (who : Offered) (s : Sound who) (t : Float) (d : Doubles who.shape t) w
   -- ---- with the answer, as the contracts have them
 
   pub point_promised : (order : ℕ) (out : List Float) {out' : List Float} {r : Refusal} → outcome r out' ≡ point_answer who t order out
-      → (outcome r out' ≡ point_answer who t order out) × (InItsHull who t r out' × NeverRefused who t order out r)
-  point_promised order out a = (a, (in_hull order out a, never_refused order out a))
+      → record { answer : outcome r out' ≡ point_answer who t order out; hull : InItsHull who t r out'; never : NeverRefused who t order out r }
+  point_promised order out a = record { answer = a; hull = in_hull order out a; never = never_refused order out a }
 
   pub tangent_promised : (out : List Float) {out' : List Float} {r : Refusal} → outcome r out' ≡ tangent_answer who t out
-      → (outcome r out' ≡ tangent_answer who t out) × InItsHull who t r out'
-  tangent_promised out a = (a, tangent_in_hull out a)
+      → record { answer : outcome r out' ≡ tangent_answer who t out; hull : InItsHull who t r out' }
+  tangent_promised out a = record { answer = a; hull = tangent_in_hull out a }
 
 -- a curve that is refused is not accepted, and has no point
 module _ (who : Offered) (t : Float) {out' : List Float} {r : Refusal} (e : r ≡ first_of who.rules) (z : r.number ≡ 0 → ⊥) where
   pub refused_point : (order : ℕ) (out : List Float) → outcome r out' ≡ point_answer who t order out
-      → (outcome r out' ≡ point_answer who t order out) × (InItsHull who t r out' × NeverRefused who t order out r)
-  refused_point order out a = (a, ((λ n i. absurd (z (number_of n))), (λ n b l m. e ∙ n)))
+      → record { answer : outcome r out' ≡ point_answer who t order out; hull : InItsHull who t r out'; never : NeverRefused who t order out r }
+  refused_point order out a = record { answer = a; hull = λ n i. absurd (z (number_of n)); never = λ n b l m. e ∙ n }
 
-  pub refused_tangent : (out : List Float) → outcome r out' ≡ tangent_answer who t out → (outcome r out' ≡ tangent_answer who t out) × InItsHull who t r out'
-  refused_tangent out a = (a, λ n i. absurd (z (number_of n)))
+  pub refused_tangent : (out : List Float) → outcome r out' ≡ tangent_answer who t out
+      → record { answer : outcome r out' ≡ tangent_answer who t out; hull : InItsHull who t r out' }
+  refused_tangent out a = record { answer = a; hull = λ n i. absurd (z (number_of n)) }

@@ -25,8 +25,8 @@ returns c =
     let passed = number_of (sym c.check_handles-r.ensures) ∙ c.if-r-ne0.false in
     let accepted = slices_accepted coords ks passed in
     let doubles =
-    typed_slices coords ks accepted.sound.long accepted.room (λ i h. c.shared_slice_known-1.given i)
-    (λ i h. c.shared_slice_known-2-1.given i) a.t (subst T (sym c.well_formed.1.1.0.1) tt) in
+    typed_slices coords ks accepted.sound.long accepted.room (λ i h. c.type_inv.coords i)
+    (λ i h. c.type_inv.knots i) a.t (subst T (sym c.well_formed.1.1.0.1) tt) in
     point_promised (in_slices coords ks) (slices_sound coords ks) a.t doubles a.order a.out.now
     (point_answered (in_slices coords ks) (slices_sound coords ks) passed a.t a.order a.out.now
     (c.orders_slices-room.ensures ∙ slices_found coords ks passed a.t a.order) c.answer_point.ensures)

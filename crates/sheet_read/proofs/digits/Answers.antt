@@ -2,7 +2,6 @@
 use native.Mathlib.Omega.{arith}
 use mathlib.Core.Path.{sym, ap, ◌∙◌}
 use mathlib.Core.Bool.{not}
-use Prim.Native.Nat.{◌-◌}
 use Rattle.meaning.proofs.Searching.{passed, onward, found, ended}
 use Rattle.sheet_read.specs.Number.{is_decimal, digits_at}
 use Rattle.sheet_read.proofs.digits.Goals as goal

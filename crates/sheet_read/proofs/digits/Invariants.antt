@@ -1,6 +1,6 @@
 -- `sheet_read::digits` meets its contract: each byte passed is a digit.
 use mathlib.Core.Bool.{not}
-use Prim.Native.Nat.{◌+◌, ◌-◌}
+use Prim.Native.Nat.{◌+◌}
 use Rattle.meaning.proofs.Searching.{Passed}
 use Rattle.sheet_read.specs.Text.{byte_at}
 use Rattle.sheet_read.specs.Number.{is_decimal}

@@ -1,7 +1,6 @@
 -- `sheet_read::has_hex` meets its contract: each byte passed is a digit.
 use native.Mathlib.Omega.{arith}
 use mathlib.Core.Path.{sym, ap, ◌∙◌}
-use Prim.Native.Nat.{◌-◌}
 use borrow.Author.Tests.{not-true, not-false}
 use Rattle.sheet_read.specs.Number.{is_hex}
 use Rattle.meaning.proofs.Every.{start, on, fails, holds}

@@ -1,5 +1,5 @@
 -- `sheet_read::has_hex` meets its contract: each byte passed is a digit.
-use Prim.Native.Nat.{◌+◌, ◌-◌}
+use Prim.Native.Nat.{◌+◌}
 use Rattle.sheet_read.specs.Text.{byte_at}
 use Rattle.sheet_read.specs.Number.{is_hex}
 use Rattle.meaning.proofs.Every.{Holds}

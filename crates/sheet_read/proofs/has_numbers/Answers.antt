@@ -1,7 +1,6 @@
 -- `sheet_read::has_numbers` meets its contract: each number passed stands in its place.
 use native.Mathlib.Omega.{arith}
 use mathlib.Core.Path.{◌≡◌, sym, ◌∙◌}
-use Prim.Native.Nat.{◌-◌}
 use borrow.Author.Tests.{not-true, not-false}
 use Rattle.sheet_read.specs.Number.{double_stands}
 use Rattle.sheet_read.specs.Grammar.{byte_after, number_place, numbers_stand}

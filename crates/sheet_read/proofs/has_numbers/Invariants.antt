@@ -1,5 +1,4 @@
 -- `sheet_read::has_numbers` meets its contract: each number passed stands in its place.
-use Prim.Native.Nat.{◌-◌}
 use Rattle.sheet_read.specs.Number.{double_stands}
 use Rattle.sheet_read.specs.Grammar.{byte_after, number_place}
 use Rattle.meaning.proofs.Every.{Holds}

@@ -1,7 +1,6 @@
 -- `sheet_read::has_word` meets its contract: each byte passed is the word's.
 use native.Mathlib.Omega.{arith}
 use mathlib.Core.Path.{sym, ◌∙◌}
-use Prim.Native.Nat.{◌-◌}
 use borrow.Author.Tests.{eq-eqb, ne_eqb}
 use Rattle.sheet_read.specs.Text.{word_stands}
 use Rattle.meaning.proofs.Every.{start, on, fails, holds}

@@ -1,6 +1,6 @@
 -- `sheet_read::has_word` meets its contract: each byte passed is the word's.
 use mathlib.Core.Path.{◌≡◌}
-use Prim.Native.Nat.{◌+◌, ◌-◌}
+use Prim.Native.Nat.{◌+◌}
 use lib.Dec.{eqb}
 use lib.ListN.{length}
 use Rattle.sheet_read.specs.Text.{byte_at}

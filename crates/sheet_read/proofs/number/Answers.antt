@@ -1,5 +1,5 @@
 -- `sheet_read::number` meets its contract: i digits write a number below 16 ^ i.
-use Prim.Native.Nat.{◌+◌, ◌-◌, ◌*◌, ◌^◌, ◌<◌}
+use Prim.Native.Nat.{◌+◌, ◌*◌, ◌^◌, ◌<◌}
 use native.Mathlib.Omega.{arith}
 use Rattle.meaning.proofs.For.{first, next, last}
 use Rattle.sheet_read.specs.Number.{number_at}

@@ -1,5 +1,5 @@
 -- `sheet_read::number` meets its contract: i digits write a number below 16 ^ i.
-use Prim.Native.Nat.{◌+◌, ◌-◌, ◌*◌, ◌^◌, ◌<◌}
+use Prim.Native.Nat.{◌+◌, ◌*◌, ◌^◌, ◌<◌}
 use Rattle.meaning.proofs.For.{At}
 use Rattle.sheet_read.specs.Text.{byte_at}
 use Rattle.sheet_read.specs.Number.{digit_of}

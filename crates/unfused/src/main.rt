@@ -4,7 +4,7 @@
 #![tactic(auto)]
 
 use curve::Curve;
-use libc::STDOUT_FILENO;
+use std::io;
 
 // The control points, x and y in turn.
 fn control() -> [f64; 12] {
@@ -12,63 +12,62 @@ fn control() -> [f64; 12] {
 }
 
 // Writes that there was a refusal: there is to be none.
-fn print_refusal(number: u64) {
-    io::write_all(STDOUT_FILENO, b"refused ");
-    io::print_decimal(STDOUT_FILENO, number);
-    io::write_all(STDOUT_FILENO, b"\n");
+fn print_refusal(rt: &impl Print, number: u64) -> io::Result<()> {
+    println!(rt; "refused {number}")
 }
 
 // Writes the bits of x, or a word for a NaN, which has no bits of its own.
-fn print_double(x: f64) {
+fn print_double(rt: &impl Print, x: f64) -> io::Result<()> {
     if x == x {
-        io::print_hex(STDOUT_FILENO, f64::to_bits(x), 16);
+        print!(rt; "{:016x}", f64::to_bits(x))
     } else {
-        io::write_all(STDOUT_FILENO, b"nan");
+        print!(rt; "nan")
     }
 }
 
 // Writes a line with the bits of x and y.
-fn print_pair(x: f64, y: f64) {
-    print_double(x);
-    io::write_all(STDOUT_FILENO, b" ");
-    print_double(y);
-    io::write_all(STDOUT_FILENO, b"\n");
+fn print_pair(rt: &impl Print, x: f64, y: f64) -> io::Result<()> {
+    print_double(rt, x)?;
+    print!(rt; " ")?;
+    print_double(rt, y)?;
+    println!(rt)
 }
 
 // Writes the four orders, a line each.
-fn print_orders(a: &[f64; 8]) {
-    print_pair(a[0], a[1]);
-    print_pair(a[2], a[3]);
-    print_pair(a[4], a[5]);
-    print_pair(a[6], a[7]);
+fn print_orders(rt: &impl Print, a: &[f64; 8]) -> io::Result<()> {
+    print_pair(rt, a[0], a[1])?;
+    print_pair(rt, a[2], a[3])?;
+    print_pair(rt, a[4], a[5])?;
+    print_pair(rt, a[6], a[7])
 }
 
 // Writes the orders 0 to 3 of the curve at t.
-fn print_at(c: Curve, t: f64) {
+fn print_at(rt: &impl Print, c: Curve, t: f64) -> io::Result<()> {
     let mut out = [0.0; 8];
     let r = point::evaluate(c, t, 3, &mut out);
     if r.number == 0 {
-        print_orders(&out);
+        print_orders(rt, &out)
     } else {
-        print_refusal(r.number);
+        print_refusal(rt, r.number)
     }
 }
 
 // Writes the curve at k/37 for k from -2 to 38: from before its start to past its end.
-fn print_all(c: Curve) {
+fn print_all(rt: &impl Print, c: Curve) -> io::Result<()> {
     let mut k = -2.0;
     for _ in 0..41u64 {
-        print_at(c, k / 37.0);
+        print_at(rt, c, k / 37.0)?;
         k = k + 1.0;
     }
+    Ok(())
 }
 
-fn main() {
+fn main(rt: HostRuntime) -> io::Result<()> {
     let points = control();
     let built = control::build_control(&points, false, &points, false);
     if built.refusal.number == 0 {
-        print_all(built.curve);
+        print_all(&rt, built.curve)
     } else {
-        print_refusal(built.refusal.number);
+        print_refusal(&rt, built.refusal.number)
     }
 }

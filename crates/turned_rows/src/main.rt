@@ -2,8 +2,8 @@
 // tools/make-turned-rows, which moves whole rows and knows nothing of this program's solves, computes the expected lines and counts those ties.
 #![tactic(auto)]
 
-use libc::STDOUT_FILENO;
 use partials::Dv;
+use std::io;
 
 // The next number of a row of whole numbers below 2^31.
 fn next(s: u64) -> u64 {
@@ -48,51 +48,51 @@ fn draw_counts(ns: &mut [u8], s: u64) -> u64 {
 }
 
 // Writes the bits of x, and a space before them.
-fn print_double(x: f64) {
-    io::write_all(STDOUT_FILENO, b" ");
-    io::print_hex(STDOUT_FILENO, number::bits(x), 16);
+fn print_double(rt: &impl Print, x: f64) -> io::Result<()> {
+    print!(rt; " {:016x}", number::bits(x))
 }
 
 // Writes a value, how many partials it has, and the first of them.
-fn print_value(x: Dv) {
-    print_double(x.v);
-    io::write_all(STDOUT_FILENO, b" ");
-    io::print_decimal(STDOUT_FILENO, x.n as u64);
-    print_double(x.g[0]);
+fn print_value(rt: &impl Print, x: Dv) -> io::Result<()> {
+    print_double(rt, x.v)?;
+    print!(rt; " {}", x.n)?;
+    print_double(rt, x.g[0])
 }
 
 // Writes the first six answers.
-fn print_six(xs: [f64; 66], ys: [f64; 66]) {
+fn print_six(rt: &impl Print, xs: [f64; 66], ys: [f64; 66]) -> io::Result<()> {
     for r in 0..6 {
-        print_double(xs[r]);
-        print_double(ys[r]);
+        print_double(rt, xs[r])?;
+        print_double(rt, ys[r])?;
     }
+    Ok(())
 }
 
 // Writes the four answers.
-fn print_four(xs: [Dv; 4], ys: [Dv; 4]) {
+fn print_four(rt: &impl Print, xs: [Dv; 4], ys: [Dv; 4]) -> io::Result<()> {
     for r in 0..4 {
-        print_value(xs[r]);
-        print_value(ys[r]);
+        print_value(rt, xs[r])?;
+        print_value(rt, ys[r])?;
     }
+    Ok(())
 }
 
 // Writes the answers of m rows of doubles, drawn after the number s, in a line; answers the last number.
-fn print_plain(m: usize, s: u64) -> u64 {
+fn print_plain(rt: &impl Print, m: usize, s: u64) -> io::Result<u64> {
     let mut w = [0.0; 48];
     let last = draw(&mut w, s);
     let solved = solve::solve(&mut w, m);
     if solved.fine {
         let xs = solved.xs;
         let ys = solved.ys;
-        print_six(xs, ys);
+        print_six(rt, xs, ys)?;
     }
-    io::write_all(STDOUT_FILENO, b"\n");
-    last
+    println!(rt)?;
+    Ok(last)
 }
 
 // The same of m rows of values with up to one partial.
-fn print_partials(m: usize, s: u64) -> u64 {
+fn print_partials(rt: &impl Print, m: usize, s: u64) -> io::Result<u64> {
     let mut w = [0.0; 96];
     let mut ns = [0; 48];
     let first = draw(&mut w, s);
@@ -101,25 +101,26 @@ fn print_partials(m: usize, s: u64) -> u64 {
     if solved.fine {
         let xs = solved.xs;
         let ys = solved.ys;
-        print_four(xs, ys);
+        print_four(rt, xs, ys)?;
     }
-    io::write_all(STDOUT_FILENO, b"\n");
-    last
+    println!(rt)?;
+    Ok(last)
 }
 
 // 32 systems of m rows by each solve, after the number s; answers the last number.
-fn print_systems(m: usize, s: u64) -> u64 {
+fn print_systems(rt: &impl Print, m: usize, s: u64) -> io::Result<u64> {
     let mut last = s;
     for _ in 0..32u64 {
-        last = print_plain(m, last);
-        last = print_partials(m, last);
+        last = print_plain(rt, m, last)?;
+        last = print_partials(rt, m, last)?;
     }
-    last
+    Ok(last)
 }
 
-fn main() {
-    let three = print_systems(3, 1);
-    let four = print_systems(4, three);
-    let five = print_systems(5, four);
-    print_systems(6, five);
+fn main(rt: HostRuntime) -> io::Result<()> {
+    let three = print_systems(&rt, 3, 1)?;
+    let four = print_systems(&rt, 4, three)?;
+    let five = print_systems(&rt, 5, four)?;
+    print_systems(&rt, 6, five)?;
+    Ok(())
 }

@@ -9,13 +9,13 @@ use Rattle.evaluate.proofs.inside_slices.Goals.{After-span-i}
 
 -- the span lies below the number of points
 below : (c : After-span-i) → c.span-i.result < points_in c.args.coords.now
-below c = c.span-i.ensures.fact_2.1.1.1 c.requires.fact_1.four
+below c = c.span-i.ensures.fact_5 c.requires.fact_1.four
 
 pub window-w-requires : goal.window-w-requires
 window-w-requires c = let s = c.requires.fact_1 in record {
-      fact_1 = omega arith;
-      fact_2 = omega (arith, below c, s.long);
-    }
+  fact_1 = omega arith;
+  fact_2 = omega (arith, below c, s.long);
+}
 
 pub four-x-requires : goal.four-x-requires
 four-x-requires c = omega (arith, below (goal.at.four-x-requires c).After-span-i)

@@ -32,7 +32,8 @@ few-points : (c : After-build_with-b) → c.build_with-b.result.curve.points ≤
 few-points c =
     let a = c.args in
     points-few a.form a.coords.now a.given a.knots.now a.work.now a.control.now a.knots_out.now
-    (told c.before.before) c.build_with-b.ensures
+    (c.either-short.ensures
+    ∙ ap (λ (n : ℕ). ltb (length a.control.now) (2 * n) || ltb (length a.knots_out.now) (n + 4)) c.controls-m.ensures) c.build_with-b.ensures
 
 pub overflow_mul-m : goal.overflow_mul-m
 overflow_mul-m c = omega (arith, few c)

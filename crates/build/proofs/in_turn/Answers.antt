@@ -18,4 +18,4 @@ unfolding in_turn
 returns c =
     let l = c.loop-i in
     let e : l.i ≡ c.args.n = omega arith in
-    (rw e at (front l.invariant.1), omega (arith, l.invariant.1.long))
+    record { result_value = rw e at (front l.invariant.1); n_in_bounds = omega (arith, l.invariant.1.long) }

@@ -84,14 +84,16 @@ module _ (who : Offered) (ts : List Float) (order : ℕ) (out : List Float) (ref
   -- ---- demand 3
 
   abbrev Promised : Refusal → List Float → List ℕ → Type 0
-  Promised r out' refusals' =
-      (many r out' refusals' ≡ points_answer who ts order out refusals)
-      × (EachInItsHull who ts order r out' refusals' × NoneRefused who ts order out r refusals')
+  Promised r out' refusals' = record {
+    answer : many r out' refusals' ≡ points_answer who ts order out refusals;
+    hull : EachInItsHull who ts order r out' refusals';
+    never : NoneRefused who ts order out r refusals';
+  }
 
   -- a refused call has no point
   pub refused_points : {r : Refusal} {out' : List Float} {refusals' : List ℕ} → (r.number ≡ 0 → ⊥)
       → many r out' refusals' ≡ points_answer who ts order out refusals → Promised r out' refusals'
-  refused_points h a = (a, ((λ z. absurd (h (number_of z))), (λ z. absurd (h (number_of z)))))
+  refused_points h a = record { answer = a; hull = λ z. absurd (h (number_of z)); never = λ z. absurd (h (number_of z)) }
 
   module _ (s : Sound who) {r : Refusal} {out' : List Float} {refusals' : List ℕ} (a : many r out' refusals' ≡ points_answer who ts order out refusals) where
     all_pass : r ≡ none → Passed (who.rules ++ rows)
@@ -112,10 +114,8 @@ module _ (who : Offered) (ts : List Float) (order : ℕ) (out : List Float) (ref
         asked_alone (numbers_for order) (alone who ts order) out refusals (length ts) fits.places (keeps z) (who.rules ++ rows) a z k h
 
     pub points_promised : ((k : ℕ) → k < length ts → Doubles who.shape (at1 plain ts k)) → Promised r out' refusals'
-    points_promised d = (
-      a,
-      (
-        λ z k h. in_hull who s (at1 plain ts k) (d k h) order (place_of (numbers_for order) k out) (entry z k h),
-        λ z k h. never_refused who s (at1 plain ts k) (d k h) order (place_of (numbers_for order) k out) (entry z k h),
-      ),
-    )
+    points_promised d = record {
+      answer = a;
+      hull = λ z k h. in_hull who s (at1 plain ts k) (d k h) order (place_of (numbers_for order) k out) (entry z k h);
+      never = λ z k h. never_refused who s (at1 plain ts k) (d k h) order (place_of (numbers_for order) k out) (entry z k h);
+    }

@@ -1,6 +1,6 @@
 -- `points::answer_each` meets its contract: a turn answers one parameter.
 use mathlib.Core.List.{List}
-use Prim.Native.Nat.{ℕ, ◌-◌}
+use Prim.Native.Nat.{ℕ}
 use lib.Ieee.{Float}
 use Rattle.meaning.specs.Scalar.{plain}
 use Rattle.span.specs.Counting.{counted_of}

@@ -1,6 +1,6 @@
 -- `points::answer_each_slices` meets its contract: a turn answers one parameter.
 use mathlib.Core.List.{List}
-use Prim.Native.Nat.{ℕ, ◌-◌}
+use Prim.Native.Nat.{ℕ}
 use lib.Ieee.{Float}
 use Rattle.evaluate.specs.Piece.{slice_orders}
 use Rattle.points.proofs.Turns.{Turned}

@@ -37,4 +37,4 @@ returns c =
     points_promised who a.ts.now a.order a.out.now a.refusals.now (record_sound _)
     (points-answered who a.ts.now a.order a.out.now a.refusals.now (record_sound _)
     (number_of (sym c.check-r.ensures) ∙ c.if-r-ne0.false) c.check_call-q.ensures c.if-q-ne0.false c.answer_each.ensures)
-    (λ j h. typed a.c _ c.well_formed.0 (at1 plain a.ts.now j) (c.shared_slice_known-1.given j))
+    (λ j h. typed a.c _ c.well_formed.0 (at1 plain a.ts.now j) (c.type_inv.ts j))

@@ -45,5 +45,5 @@ returns c =
     (points-answered who ts a.order a.out.now a.refusals.now (slices_sound coords ks) passed c.check_call-q.ensures c.if-q-ne0.false
     (asked_as ts a.order (λ u. slices_found coords ks passed u a.order) c.answer_each_slices.ensures))
     (λ j h.
-    typed_slices coords ks accepted.sound.long accepted.room (λ i g. c.shared_slice_known-1.given i)
-    (λ i g. c.shared_slice_known-2-1.given i) (at1 plain ts j) (c.shared_slice_known-3-1.given j))
+    typed_slices coords ks accepted.sound.long accepted.room (λ i g. c.type_inv.coords i)
+    (λ i g. c.type_inv.knots i) (at1 plain ts j) (c.type_inv.ts j))

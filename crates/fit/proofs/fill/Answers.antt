@@ -1,6 +1,6 @@
 -- `fit::fill` meets its contract: the rows below r are the system's, and the verdict is theirs.
 use mathlib.Core.Path.{refl, ◌≡◌, sym, ◌∙◌}
-use Prim.Native.Nat.{◌-◌, ◌+◌}
+use Prim.Native.Nat.{◌+◌}
 use native.Mathlib.Omega.{arith}
 use Rattle.meaning.proofs.Every.{every-none, every_next}
 use Rattle.fit.proofs.Rows.{none_written, one_more, all_written, found-row_at, found_shaped, found-verdict}

@@ -1,6 +1,6 @@
 -- `fit::fill` meets its contract: the rows below r are the system's, and the verdict is theirs.
 use mathlib.Core.Path.{◌≡◌}
-use Prim.Native.Nat.{◌-◌, ◌+◌, ◌≤◌}
+use Prim.Native.Nat.{◌+◌, ◌≤◌}
 use lib.ListN.{length}
 use Rattle.meaning.specs.Scalar.{plain}
 use Rattle.meaning.specs.Search.{every}

@@ -1,7 +1,7 @@
 -- `fit::fill_row` meets its contract: the row is cleared and gets its six numbers; the verdict is theirs.
 use mathlib.Core.Path.{ap}
 use mathlib.Core.Bool.{not}
-use Prim.Native.Nat.{ℕ, ◌-◌}
+use Prim.Native.Nat.{ℕ}
 use lib.Dec.{ltb}
 use Rattle.plane.specs.View.{view}
 use Rattle.fit.proofs.Six.{six_stored}

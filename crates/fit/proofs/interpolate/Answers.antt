@@ -7,4 +7,4 @@ pub returns : goal.returns
 returns c =
     let solve = c.solve-s.ensures in
     solved-through c.args.q.now _ _ c.requires.0 c.requires.1 c.fit_parameters-p.ensures c.knots_by-u.ensures
-    c.requires.2 (omega (arith, c.fill-stored.auto)) c.fill-stored.ensures solve.0 solve.1 c.curve_with.ensures
+    c.requires.2 (omega arith) c.fill-stored.ensures solve.fact_1 solve.fact_2 c.curve_with.ensures

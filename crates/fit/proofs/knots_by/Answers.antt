@@ -1,9 +1,8 @@
 -- `fit::knots_by` meets its contract: a turn stores one knot.
 use native.Mathlib.Omega.{arith}
 use mathlib.Core.Path.{refl}
-use Prim.Native.Nat.{◌-◌}
 use Rattle.meaning.proofs.Filling.{empty, filled, full}
-use Rattle.fit.specs.Parameters.{knot_at, knots_by}
+use Rattle.fit.specs.Parameters.{knots_by}
 use Rattle.fit.proofs.knots_by.Goals as goal
 
 pub loop-j-init : goal.loop-j-init

@@ -1,5 +1,4 @@
 -- `fit::knots_by` meets its contract: a turn stores one knot.
-use Prim.Native.Nat.{◌-◌}
 use lib.Ieee.{nan}
 use Rattle.meaning.specs.Scalar.{plain}
 use Rattle.meaning.specs.Table.{at1}

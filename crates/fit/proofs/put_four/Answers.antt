@@ -1,7 +1,6 @@
 -- `fit::put_four` meets its contract: a turn puts one number.
 use native.Mathlib.Omega.{arith}
 use mathlib.Core.Path.{refl}
-use Prim.Native.Nat.{◌-◌}
 use Rattle.meaning.proofs.For.{first, next, last}
 use Rattle.fit.specs.Stored.{four_put}
 use borrow.Author.Rules.{rules}

@@ -7,7 +7,7 @@ use Rattle.fit.proofs.set_row.Goals as goal
 pub fill_row-requires : goal.fill_row-requires
 fill_row-requires c =
     let found = c.span-i.ensures in
-    (omega arith, omega arith, found.1.1.0, found.1.1.1.1 c.requires.0)
+    (omega arith, omega arith, found.fact_3, found.fact_5 c.requires.0)
 
 pub returns : goal.returns
 unfolding found_row row_of row_at

@@ -1,6 +1,5 @@
 -- `fit::total` meets its contract: a turn adds one step.
 use native.Mathlib.Omega.{arith}
-use Prim.Native.Nat.{◌-◌}
 use mathlib.Core.Path.{refl}
 use Rattle.meaning.proofs.For.{first, next, last}
 use Rattle.fit.specs.Parameters.{sum_of}

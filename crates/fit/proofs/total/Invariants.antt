@@ -1,5 +1,4 @@
 -- `fit::total` meets its contract: a turn adds one step.
-use Prim.Native.Nat.{◌-◌}
 use Rattle.meaning.specs.Scalar.{plain}
 use Rattle.meaning.specs.Table.{at1}
 use Rattle.meaning.proofs.For.{At}

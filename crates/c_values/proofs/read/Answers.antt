@@ -1,6 +1,5 @@
 -- `c_values::read` meets its contract: the loop reads one partial in each turn.
 use native.Mathlib.Omega.{arith}
-use Prim.Native.Nat.{◌-◌}
 use Rattle.meaning.proofs.For.{first, next, last}
 use Rattle.partials.specs.Dual.{partials}
 use Rattle.c_values.specs.Crossing.{read_dv}

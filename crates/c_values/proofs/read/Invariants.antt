@@ -1,5 +1,5 @@
 -- `c_values::read` meets its contract: the loop reads one partial in each turn.
-use Prim.Native.Nat.{◌+◌, ◌-◌}
+use Prim.Native.Nat.{◌+◌}
 use lib.ListN.{set}
 use Rattle.meaning.proofs.For.{At}
 use Rattle.c_values.specs.Crossing.{entry_of}

@@ -1,6 +1,5 @@
 -- `c_values::read_six` meets its contract: a turn reads one value.
 use native.Mathlib.Omega.{arith}
-use Prim.Native.Nat.{◌-◌}
 use Rattle.meaning.specs.Loops.{turns}
 use Rattle.meaning.proofs.For.{first, next, last}
 use Rattle.meaning.specs.Search.{listed}

@@ -1,5 +1,5 @@
 -- `c_values::read_six` meets its contract: a turn reads one value.
-use Prim.Native.Nat.{◌-◌, ◌*◌}
+use Prim.Native.Nat.{◌*◌}
 use lib.ListN.{get_or, set}
 use Rattle.meaning.proofs.For.{At}
 use Rattle.c_values.specs.Crossing.{read_dv}

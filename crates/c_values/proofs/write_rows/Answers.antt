@@ -54,4 +54,7 @@ pub returns : goal.returns
 returns c =
     let l = c.loop-i in
     let e : l.i ≡ 20 = whole c.loop-i-test.false l.invariant.2 in
-    (all_listed 20 (value_of c.args.rows) (rw e at l.invariant.3), rw e at l.invariant.4)
+    record {
+      out_after = all_listed 20 (value_of c.args.rows) (rw e at l.invariant.3);
+      counts_after = rw e at l.invariant.4;
+    }

@@ -1,7 +1,7 @@
 -- `c_values::write_rows` meets its contract: a turn puts one value and its count. A need of numbers is a law over them alone: a turn's record holds all
 -- that is known of twenty values. Assumes nothing.
 use mathlib.Core.Path.{◌≡◌}
-use Prim.Native.Nat.{◌-◌, ◌≤◌}
+use Prim.Native.Nat.{◌≤◌}
 use lib.ListN.{length}
 use lib.Seq.{paste}
 use Rattle.meaning.specs.Search.{listed}

@@ -14,9 +14,9 @@ use Rattle.solve.proofs.solve.Goals as goal
 pub returns-then-m-lt1 : goal.returns-then-m-lt1
 unfolding solve_of work_of
 returns-then-m-lt1 c = record {
-      fact_1 = rw (lt-leb _ _ c.if-m-lt1.true) c.unsolved.ensures;
-      fact_2 = rw (lt-leb _ _ c.if-m-lt1.true);
-    }
+  fact_1 = rw (lt-leb _ _ c.if-m-lt1.true) c.unsolved.ensures;
+  fact_2 = rw (lt-leb _ _ c.if-m-lt1.true);
+}
 
 pub returns-then-m-gt66 : goal.returns-then-m-gt66
 unfolding solve_of work_of

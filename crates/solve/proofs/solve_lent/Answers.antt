@@ -29,11 +29,11 @@ rows_in k = k.args.m
 
 -- the order that the solve leaves
 abbrev order-of : After-solve_rows-fine → List ℕ
-order-of k = k.solve_rows-fine.new.1.0
+order-of k = k.solve_rows-fine.new.order
 
 -- the rows that lie at the front at first lie there in order: what the solve makes of them
 solved-in : (k : After-solve_rows-fine) → OfRows (rows_in k) (rows_in k + 2) k.args.w.now (λ M rest.
-    (k.solve_rows-fine.new.0 ≡ flat (laid (rows_in k) (order-of k) (solved plain (rows_in k) M)) rest) × (k.solve_rows-fine.result ≡ solved_ok plain (rows_in k) M))
+    (k.solve_rows-fine.new.w ≡ flat (laid (rows_in k) (order-of k) (solved plain (rows_in k) M)) rest) × (k.solve_rows-fine.result ≡ solved_ok plain (rows_in k) M))
 solved-in k M rest e sh =
     let m = rows_in k in
     let first = laid_start m M k.requires.0 sh.count ∙ ap (λ (l : List ℕ). laid m l M) (sym k.in_order-order.ensures) in
@@ -41,7 +41,7 @@ solved-in k M rest e sh =
 
 -- what stands after the rows once their room is cleared
 rest-stays : (k : After-solve_rows-fine) → OfRows (rows_in k) (rows_in k + 2) k.args.w.now (λ M rest.
-    drop (rows_in k * (rows_in k + 2)) k.solve_rows-fine.new.0 ≡ rest)
+    drop (rows_in k * (rows_in k + 2)) k.solve_rows-fine.new.w ≡ rest)
 rest-stays k M rest e sh =
     let m = rows_in k in
     let N = solved plain m M in
@@ -50,15 +50,15 @@ rest-stays k M rest e sh =
 
 pub column_of-xs-requires : goal.column_of-xs-requires
 column_of-xs-requires c =
-    (omega arith, omega (arith, c.solve_rows-fine.auto, c.requires.1), c.solve_rows-fine.ensures.stays)
+    (omega arith, omega (arith, c.requires.1), c.solve_rows-fine.ensures.stays)
 
 pub column_of-ys-requires : goal.column_of-ys-requires
 column_of-ys-requires c =
-    (omega arith, omega (arith, c.solve_rows-fine.auto, c.requires.1), c.solve_rows-fine.ensures.stays)
+    (omega arith, omega (arith, c.requires.1), c.solve_rows-fine.ensures.stays)
 
 pub clear-requires : goal.clear-requires
 clear-requires c =
-    omega (arith, c.solve_rows-fine.auto, c.requires.1)
+    omega (arith, c.requires.1)
 
 pub returns-then-fine : goal.returns-then-fine
 unfolding solution_of

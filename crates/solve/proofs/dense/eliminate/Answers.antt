@@ -1,6 +1,5 @@
 -- `solve::dense::eliminate` meets its contract: the columns below col are eliminated, and the flag is their verdict.
 use native.Mathlib.Omega.{arith}
-use Prim.Native.Nat.{◌-◌}
 use Rattle.meaning.specs.Scalar.{plain}
 use Rattle.solve.specs.Elimination.{eliminated}
 use Rattle.solve.specs.Verdicts.{eliminated_ok}
@@ -21,9 +20,12 @@ pub loop-col-preserved : goal.loop-col-preserved
 loop-col-preserved c =
     let call = c.eliminate_column in
     let a = c.args in
-    further c.loop-col.invariant (column_shaped plain a.m a.s) c.loop-col-test.true call.ensures.0 call.ensures.1 call.auto.0
+    further c.loop-col.invariant (column_shaped plain a.m a.s) c.loop-col-test.true call.ensures.stays call.ensures.becomes call.auto.w
     c.both-fine.ensures
 
 pub returns : goal.returns
 unfolding eliminated eliminated_ok
-returns c = (c.loop-col.invariant.stays, over c.loop-col.invariant (omega arith))
+returns c = record {
+  stays = c.loop-col.invariant.stays;
+  becomes = over c.loop-col.invariant (omega arith);
+}

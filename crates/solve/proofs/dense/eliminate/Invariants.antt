@@ -1,5 +1,4 @@
 -- `solve::dense::eliminate` meets its contract: the columns below col are eliminated, and the flag is their verdict.
-use Prim.Native.Nat.{◌-◌}
 use Rattle.meaning.specs.Scalar.{plain}
 use Rattle.solve.specs.Elimination.{column_done}
 use Rattle.solve.specs.Verdicts.{column_ok}

@@ -33,10 +33,10 @@ pub bounds-order-best : goal.bounds-order-best
 bounds-order-best c = omega (arith, best (goal.at.bounds-order-best c).After-find_pivot-best, c.requires.4.few)
 
 -- the order afterwards
-next-is : (x : After-exchange) → let a = x.args in x.exchange.new.0 ≡ exchanged_in a.order.now a.col x.find_pivot-best.result
+next-is : (x : After-exchange) → let a = x.args in x.exchange.new.order ≡ exchanged_in a.order.now a.col x.find_pivot-best.result
 next-is x = x.exchange.ensures
 
-stays : (x : After-exchange) → Order x.args.m x.exchange.new.0
+stays : (x : After-exchange) → Order x.args.m x.exchange.new.order
 stays x =
     next_order x.requires.4 x.args.col x.find_pivot-best.result x.requires.0 (best x.before.before.before.before) (next-is x)
 
@@ -63,10 +63,10 @@ unfolding pivoted column_done column_ok
 returns c =
     let a = c.args in
     let o = c.requires.4 in
-    let next = c.exchange.last.0 in
-    let row = c.find_pivot-best.result in (
-      stays (goal.at.returns c).After-exchange,
-      λ M rest e sh.
+    let next = c.exchange.new.order in
+    let row = c.find_pivot-best.result in record {
+      stays = stays (goal.at.returns c).After-exchange;
+      becomes = λ M rest e sh.
           let N = pivoted plain a.m a.col M in
           let is = c.find_pivot-best.ensures.greatest M rest e sh ∙ best_is plain a.m a.col M c.requires.0 in
           let moved = next_rows o a.col row c.requires.0 (best (goal.at.returns c).After-find_pivot-best) (next-is (goal.at.returns c).After-exchange) plain M rest a.w.now sh.count is e in
@@ -78,5 +78,5 @@ returns c =
           let done = c.reduce_rows.ensures N rest moved shN in (
             done.0 ∙ ap (λ (q : List Float). flat (laid a.m next (reduced_rows plain a.m a.m a.col q N)) rest) loaded,
             done.1 ∙ ap (λ (q : List Float). reduced_rows_ok plain a.m a.m a.col q N) loaded,
-          ),
-    )
+          );
+    }

@@ -1,5 +1,4 @@
 -- `solve::dense::reduce_rows` meets its contract: the rows below r are reduced, and the flag is their verdict.
-use Prim.Native.Nat.{◌-◌}
 use native.Mathlib.Omega.{arith}
 use mathlib.Core.Path.{refl}
 use Rattle.meaning.specs.Scalar.{plain}

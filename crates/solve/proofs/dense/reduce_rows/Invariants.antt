@@ -1,5 +1,5 @@
 -- `solve::dense::reduce_rows` meets its contract: the rows below r are reduced, and the flag is their verdict.
-use Prim.Native.Nat.{◌≤◌, ◌-◌, ◌<◌}
+use Prim.Native.Nat.{◌≤◌, ◌<◌}
 use mathlib.Core.Path.{◌≡◌}
 use lib.ListN.{length}
 use Rattle.meaning.specs.Scalar.{plain}

@@ -18,16 +18,16 @@ pub substitute-second-requires : goal.substitute-second-requires
 substitute-second-requires c =
     let one = c.eliminate-first in
     let p = c.requires in
-    (omega arith, omega (arith, one.auto, p.0), one.ensures.0)
+    (omega arith, omega (arith, p.0), one.ensures.stays)
 
 pub returns : goal.returns
 unfolding solved
 returns c =
     let m = c.args.m in
-    let one = c.eliminate-first.ensures in (
-      one.0,
-      λ M rest e sh.
-          let first = one.1 M rest e sh in
+    let one = c.eliminate-first.ensures in record {
+      stays = one.stays;
+      becomes = λ M rest e sh.
+          let first = one.becomes M rest e sh in
           let two = c.substitute-second.ensures (eliminated plain m m M) rest first.0 (eliminated_shaped plain m (m + 2) m M (omega arith) sh) in
-          (two.0, c.both.ensures ∙ rw (first.1, two.1) (sym (solved_along plain m M sh))),
-    )
+          (two.0, c.both.ensures ∙ rw (first.1, two.1) (sym (solved_along plain m M sh)));
+    }

@@ -22,7 +22,7 @@ loop-i-preserved c =
     let call = c.answer_row in
     let a = c.args in
     further c.loop-i.invariant (λ i N l. answered_shaped plain a.m a.s a.m N (a.m - 1 - i) (a.m - 1 - i) i (omega arith)) c.loop-i-test.true
-    c.requires.2 call.ensures call.auto.0 c.both-fine.ensures
+    c.requires.2 call.ensures call.auto.w c.both-fine.ensures
 
 pub returns : goal.returns
 unfolding backed backed_ok

@@ -1,5 +1,4 @@
 -- `solve::dense::substitute` meets its contract: the last i rows are answered, and the flag is their verdict.
-use Prim.Native.Nat.{◌-◌}
 use Rattle.meaning.specs.Scalar.{plain}
 use Rattle.solve.specs.Substitution.{answered_up}
 use Rattle.solve.specs.Verdicts.{answered_up_ok}

@@ -1,5 +1,4 @@
 -- `solve::work::clear` meets its contract: the numbers below i are cleared.
-use Prim.Native.Nat.{◌-◌}
 use mathlib.Core.Path.{◌≡◌}
 use native.Mathlib.Omega.{arith}
 use Rattle.meaning.specs.Scalar.{zero64}

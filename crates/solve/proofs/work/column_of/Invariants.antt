@@ -1,5 +1,5 @@
 -- `solve::work::column_of` meets its contract: the rows passed are copied.
-use Prim.Native.Nat.{◌-◌, ◌≤◌}
+use Prim.Native.Nat.{◌≤◌}
 use mathlib.Core.Path.{◌≡◌}
 use lib.ListN.{length}
 use Rattle.meaning.specs.Scalar.{plain}

@@ -2,7 +2,6 @@
 use Prim.Native.Nat.{ℕ, ◌≤◌, ◌-◌, ◌<◌, ◌+◌, ◌*◌}
 use native.Mathlib.Omega.{arith}
 use mathlib.Core.Path.{◌≡◌, refl, sym, ap, ◌∙◌}
-use mathlib.Core.Logic.{⊎_elim}
 use lib.ListN.{get_or}
 use lib.Ieee.{nan}
 use Rattle.meaning.specs.Scalar.{plain}
@@ -16,7 +15,7 @@ use Rattle.solve.specs.Best.{better, best_among}
 use Rattle.solve.proofs.Lists.{row_le}
 use Rattle.solve.proofs.Placed.{read-placed}
 use Rattle.solve.proofs.work.find_pivot.Goals as goal
-use Rattle.solve.proofs.work.find_pivot.Goals.{In-loop-r, Start}
+use Rattle.solve.proofs.work.find_pivot.Goals.{In-loop-r, Start, then-at_least, else-at_least}
 
 -- row lo ends within the rows, and so does the row that a turn reads
 room : (b : Start) → place_of b.args.order.now b.args.lo * b.args.s + b.args.s ≤ b.args.m * b.args.s
@@ -79,22 +78,22 @@ loop-r-preserved c =
     let asked : OfPlaced a.m a.s a.order.now a.w.now (λ M rest. call.result ≡ at_least (at2 plain M l.r a.k) (at2 plain M l.best a.k)) =
     λ M rest e sh.
     call.ensures ∙ rw (l.invariant.3, read l.r in_rows M rest e sh, read l.best (omega (arith, l.invariant.1, in_rows)) M rest e sh) in
-    ⊎_elim
-    (λ w. (
-      omega arith,
-      omega arith,
-      omega arith,
-      w.2 ∙ rw w.1,
-      λ M rest e sh. next (l.invariant.4 M rest e sh) (omega arith) (w.1 ∙ rw (sym (asked M rest e sh) ∙ w.0.taken)),
-    ))
-    (λ w. (
-      omega arith,
-      omega arith,
-      omega arith,
-      w.2 ∙ rw (w.1, l.invariant.3),
-      λ M rest e sh. next (l.invariant.4 M rest e sh) (omega arith) (w.1 ∙ rw (sym (asked M rest e sh) ∙ w.0.left)),
-    ))
-    c.if-at_least.branch
+    elim c.if-at_least.branch [
+      | then-at_least w ↦ (
+        omega arith,
+        omega arith,
+        omega arith,
+        w.top-is ∙ rw w.best-is,
+        λ M rest e sh. next (l.invariant.4 M rest e sh) (omega arith) (w.best-is ∙ rw (sym (asked M rest e sh) ∙ w.if-at_least.true)),
+      )
+      | else-at_least w ↦ (
+        omega arith,
+        omega arith,
+        omega arith,
+        w.top-is ∙ rw (w.best-is, l.invariant.3),
+        λ M rest e sh. next (l.invariant.4 M rest e sh) (omega arith) (w.best-is ∙ rw (sym (asked M rest e sh) ∙ w.if-at_least.false)),
+      )
+    ]
 
 pub returns : goal.returns
 unfolding best_among
@@ -102,4 +101,7 @@ returns c =
     let a = c.args in
     let l = c.loop-r in
     let e : a.lo + 1 + a.n - (a.lo + 1) ≡ a.n = omega arith in
-    (omega arith, λ M rest q sh. last (l.invariant.4 M rest q sh) (omega arith) ∙ ap (λ (n : ℕ). turns (a.lo + 1) n (better plain M a.k) a.lo) e)
+    record {
+      within = omega arith;
+      greatest = λ M rest q sh. last (l.invariant.4 M rest q sh) (omega arith) ∙ ap (λ (n : ℕ). turns (a.lo + 1) n (better plain M a.k) a.lo) e;
+    }

@@ -1,5 +1,5 @@
 -- `solve::work::find_pivot` meets its contract: best is the best of the rows passed, and top is its number.
-use Prim.Native.Nat.{◌≤◌, ◌-◌, ◌<◌, ◌+◌, ◌*◌}
+use Prim.Native.Nat.{◌≤◌, ◌<◌, ◌+◌, ◌*◌}
 use mathlib.Core.Path.{◌≡◌}
 use lib.ListN.{get_or}
 use lib.Ieee.{nan}

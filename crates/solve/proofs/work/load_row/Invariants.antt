@@ -1,5 +1,5 @@
 -- `solve::work::load_row` meets its contract: the numbers below k are copied.
-use Prim.Native.Nat.{◌≤◌, ◌-◌}
+use Prim.Native.Nat.{◌≤◌}
 use mathlib.Core.Path.{◌≡◌}
 use lib.ListN.{length, take}
 use Rattle.solve.proofs.work.load_row.Given as goal

@@ -1,5 +1,5 @@
 -- `solve::work::remaining` meets its contract: the terms of the rows passed are taken off.
-use Prim.Native.Nat.{◌-◌, ◌≤◌}
+use Prim.Native.Nat.{◌≤◌}
 use mathlib.Core.Path.{◌≡◌}
 use Rattle.meaning.specs.Scalar.{plain}
 use Rattle.solve.specs.Placed.{OfPlaced}

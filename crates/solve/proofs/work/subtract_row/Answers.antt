@@ -1,5 +1,5 @@
 -- `solve::work::subtract_row` meets its contract: the numbers below k are subtracted, and the flag is up where one of them is not finite.
-use Prim.Native.Nat.{ℕ, ◌-◌, ◌<◌}
+use Prim.Native.Nat.{ℕ, ◌<◌}
 use native.Mathlib.Omega.{arith}
 use mathlib.Core.Path.{◌≡◌, refl, ap, ◌∙◌}
 use mathlib.Core.Bool.{not, not-not}

@@ -1,5 +1,5 @@
 -- `solve::work::subtract_row` meets its contract: the numbers below k are subtracted, and the flag is up where one of them is not finite.
-use Prim.Native.Nat.{◌≤◌, ◌-◌}
+use Prim.Native.Nat.{◌≤◌}
 use mathlib.Core.Path.{◌≡◌}
 use mathlib.Core.Bool.{not}
 use lib.ListN.{length}

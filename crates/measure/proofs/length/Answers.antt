@@ -5,8 +5,11 @@ use Rattle.measure.proofs.Stored.{stored_double, length_refused, length-told}
 use Rattle.measure.proofs.length.Goals as goal
 
 pub returns-then-r-ne0 : goal.returns-then-r-ne0
-returns-then-r-ne0 c = length_refused c.args.c c.check-r.ensures c.if-r-ne0.true
+returns-then-r-ne0 c =
+    let both = length_refused c.args.c c.check-r.ensures c.if-r-ne0.true in
+    record { answer = both.0; stored = both.1 }
 
 pub returns : goal.returns
 returns c =
-    length-told c.args.c (stored_double c.args.c _ c.well_formed.0) (number_of (sym c.check-r.ensures) ∙ c.if-r-ne0.false)
+    let both = length-told c.args.c (stored_double c.args.c _ c.well_formed.0) (number_of (sym c.check-r.ensures) ∙ c.if-r-ne0.false) in
+    record { answer = both.0; stored = both.1 }

@@ -22,10 +22,11 @@ passed : (c : Else-r-ne0) → let a = c.args in Passed (handle_rules Control a.c
 passed c = number_of (sym c.check_handles-r.ensures) ∙ c.if-r-ne0.false
 
 -- the sum is that of the curve's shape
-sum_is : (c : After-length_in_turn-length) → let a = c.args in c.length_in_turn-length.result ≡ length_in (slice_shape a.coords.now a.knots.now)
-sum_is c =
+sum_is : (c : After-length_in_turn-length) → let a = c.args in Passed (handle_rules Control a.coords.now true a.knots.now)
+    → c.length_in_turn-length.result ≡ length_in (slice_shape a.coords.now a.knots.now)
+sum_is c p =
     let a = c.args in
-    c.length_in_turn-length.ensures ∙ turn_length a.coords.now a.knots.now (slices_accepted a.coords.now a.knots.now (passed c.before))
+    c.length_in_turn-length.ensures ∙ turn_length a.coords.now a.knots.now (slices_accepted a.coords.now a.knots.now p)
 
 pub returns-then-r-ne0 : goal.returns-then-r-ne0
 unfolding length_answer
@@ -36,12 +37,12 @@ unfolding length_answer
 returns-then-not-is_finite c =
     tells
     (after-told (handle_rules Control _ true _) (numbered-handles Control _ true _) (passed (goal.at.returns-then-not-is_finite c).Else-r-ne0)
-    (stop_told 14 c.by.ensures (not_told (c.is_finite.ensures ∙ ap finite (sum_is (goal.at.returns-then-not-is_finite c).After-length_in_turn-length)) (ap not c.if-not-is_finite.true))))
+    (stop_told 14 c.by.ensures (not_told (c.is_finite.ensures ∙ ap finite (sum_is (goal.at.returns-then-not-is_finite c).After-length_in_turn-length (passed (goal.at.returns-then-not-is_finite c).Else-r-ne0))) (ap not c.if-not-is_finite.true))))
 
 pub returns : goal.returns
 unfolding length_answer
 returns c =
-    ap (λ (x : Float). record { refusal = none; values = x ∷ [] }) (sum_is (goal.at.returns c).After-length_in_turn-length)
+    ap (λ (x : Float). record { refusal = none; values = x ∷ [] }) (sum_is (goal.at.returns c).After-length_in_turn-length (passed (goal.at.returns c).Else-r-ne0))
     ∙ tells
     (after-told (handle_rules Control _ true _) (numbered-handles Control _ true _) (passed (goal.at.returns c).Else-r-ne0)
-    (pass_told 15 (not_told (c.is_finite.ensures ∙ ap finite (sum_is (goal.at.returns c).After-length_in_turn-length)) (ap not c.if-not-is_finite.false)) done-told))
+    (pass_told 15 (not_told (c.is_finite.ensures ∙ ap finite (sum_is (goal.at.returns c).After-length_in_turn-length (passed (goal.at.returns c).Else-r-ne0))) (ap not c.if-not-is_finite.false)) done-told))

@@ -6,7 +6,7 @@ use Rattle.refusal.specs.declared.Refusal.{Refusal}
 use Rattle.refusal.specs.Refusals.{none}
 use Rattle.outcome.specs.declared.Told.{Told}
 use Rattle.outcome.specs.declared.Told.TheVariants.{Is, Refused}
-use Rattle.outcome.specs.Told.{Values, told}
+use Rattle.outcome.specs.Told.{told}
 use Rattle.measure.specs.declared.Interval.{Interval}
 use Rattle.measure.specs.declared.Interval.TheVariants as ends
 use Rattle.measure.specs.Measure.{interval}

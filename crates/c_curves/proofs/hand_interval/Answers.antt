@@ -4,12 +4,16 @@ use Rattle.c_curves.proofs.hand_interval.Goals as goal
 
 pub returns-in-Between : goal.returns-in-Between
 returns-in-Between c =
-    let e = c.found-1.given.1 in
-    let a = c.args in
-    (first-handed _ a.from.now e c.by.ensures, second_handed _ a.to.now e c.by.ensures)
+    let e = c.in-Between.is in
+    let a = c.args in record {
+      from_after = first-handed _ a.from.now e c.by.ensures;
+      to_after = second_handed _ a.to.now e c.by.ensures;
+    }
 
 pub returns-in-Refused : goal.returns-in-Refused
 returns-in-Refused c =
-    let e = c.found-in-Refused-1.given.1 in
-    let a = c.args in
-    (end_refused _ a.from.now 0 e, end_refused _ a.to.now 1 e)
+    let e = c.in-Refused.is in
+    let a = c.args in record {
+      from_after = end_refused _ a.from.now 0 e;
+      to_after = end_refused _ a.to.now 1 e;
+    }

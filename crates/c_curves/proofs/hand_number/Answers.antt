@@ -3,7 +3,7 @@ use Rattle.c_curves.proofs.Handed.{number-handed, number_refused}
 use Rattle.c_curves.proofs.hand_number.Goals as goal
 
 pub returns-in-Is : goal.returns-in-Is
-returns-in-Is c = number-handed _ c.args.out.now c.found-1.given.1 c.by.ensures
+returns-in-Is c = number-handed _ c.args.out.now c.in-Is.is c.by.ensures
 
 pub returns-in-Refused : goal.returns-in-Refused
-returns-in-Refused c = number_refused _ c.args.out.now c.found-in-Refused-1.given.1
+returns-in-Refused c = number_refused _ c.args.out.now c.in-Refused.is

@@ -19,10 +19,9 @@ put_built-requires c =
 
 pub returns : goal.returns
 returns c =
-    let a = c.args in (
-      rw (← (text-built a.s.now a.x a.work.now c.take_numbers.ensures c.take_numbers-2.ensures c.build-b.ensures)) c.put_built.ensures.text,
-      (
-        work-built a.s.now a.x a.work.now c.take_numbers.ensures c.take_numbers-2.ensures c.build-b.ensures,
-        promise_built a.s.now a.x a.work.now c.take_numbers.ensures c.take_numbers-2.ensures c.build-b.ensures c.put_built.ensures.hull,
-      ),
-    )
+    let a = c.args in
+    record {
+      text = rw (← (text-built a.s.now a.x a.work.now c.take_numbers.ensures c.take_numbers-2.ensures c.build-b.ensures)) c.put_built.ensures.text;
+      work = work-built a.s.now a.x a.work.now c.take_numbers.ensures c.take_numbers-2.ensures c.build-b.ensures;
+      hull = promise_built a.s.now a.x a.work.now c.take_numbers.ensures c.take_numbers-2.ensures c.build-b.ensures c.put_built.ensures.hull;
+    }

@@ -1,9 +1,7 @@
 -- `sheet_text::hex_digits` meets its contract: a turn sets one digit.
 use native.Mathlib.Omega.{arith}
 use mathlib.Core.Path.{refl}
-use Prim.Native.Nat.{◌-◌}
 use Rattle.meaning.proofs.Filling.{empty, filled, full}
-use Rattle.sheet_read.specs.Number.{glyph}
 use Rattle.sheet_text.specs.Printed.{hex_text}
 use Rattle.sheet_text.proofs.hex_digits.Goals as goal
 

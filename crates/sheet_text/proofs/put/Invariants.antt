@@ -1,6 +1,6 @@
 -- `sheet_text::put` meets its contract: after i turns i bytes are copied.
 use mathlib.Core.Path.{◌≡◌}
-use Prim.Native.Nat.{◌-◌, ◌≤◌}
+use Prim.Native.Nat.{◌≤◌}
 use lib.ListN.{length}
 use lib.Seq.{paste}
 use Rattle.sheet_text.proofs.put.Given as goal

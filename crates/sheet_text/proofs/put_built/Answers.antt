@@ -8,14 +8,14 @@ use Rattle.sheet_text.proofs.put_built.Goals as goal
 pub returns-then-refusal-ne0 : goal.returns-then-refusal-ne0
 returns-then-refusal-ne0 c =
     let b = c.args.b in
-    (rw (built_refused b _ c.if-refusal-ne0.true) c.put_refusal.ensures, λ e. absurd (c.if-refusal-ne0.true (number_of e)))
+    record { text = rw (built_refused b _ c.if-refusal-ne0.true) c.put_refusal.ensures; hull = λ e. absurd (c.if-refusal-ne0.true (number_of e)) }
 
 pub put_lines-requires : goal.put_lines-requires
 put_lines-requires c =
     let h = c.put_head-at in
-    omega (arith, h.ensures.1, h.ensures.0.long)
+    omega (arith, h.ensures.upper_bound, h.ensures.put.long)
 
 pub returns : goal.returns
 returns c =
     let l = c.put_lines.ensures in
-    (rw (built_printed c.args.b _ c.if-refusal-ne0.false) (joined c.put_head-at.ensures.put l.0), λ e. l.1)
+    record { text = rw (built_printed c.args.b _ c.if-refusal-ne0.false) (joined c.put_head-at.ensures.put l.lines); hull = λ e. l.hull }

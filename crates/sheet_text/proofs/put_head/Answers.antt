@@ -16,4 +16,4 @@ pub returns : goal.returns
 unfolding head_text
 returns c =
     let p = joined c.put_number-a.ensures (joined c.put_number-b.ensures c.put.ensures) in
-    (p, omega (arith, p.place, head_short c.args.points c.args.knots))
+    record { put = p; upper_bound = omega (arith, p.place, head_short c.args.points c.args.knots) }

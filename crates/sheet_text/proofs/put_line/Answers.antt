@@ -6,9 +6,9 @@ use Rattle.sheet_text.proofs.put_line.Goals as goal
 pub returns-then-r-ne0 : goal.returns-then-r-ne0
 returns-then-r-ne0 c =
     let e = c.evaluate-r.ensures in
-    (rw (line_refused _ _ e.0 c.if-r-ne0.true) c.put_refusal.ensures, refused_promise _ _ e.0 e.1.0 e.1.1 c.if-r-ne0.true)
+    record { line = rw (line_refused _ _ e.answer c.if-r-ne0.true) c.put_refusal.ensures; hull = refused_promise _ _ e.answer e.hull e.never c.if-r-ne0.true }
 
 pub returns : goal.returns
 returns c =
     let e = c.evaluate-r.ensures in
-    (rw (line_point _ _ e.0 c.if-r-ne0.false) c.put_point.ensures, point_promise _ _ e.0 e.1.0 e.1.1 c.if-r-ne0.false)
+    record { line = rw (line_point _ _ e.answer c.if-r-ne0.false) c.put_point.ensures; hull = point_promise _ _ e.answer e.hull e.never c.if-r-ne0.false }

@@ -1,6 +1,5 @@
 -- `sheet_text::put_lines` meets its contract: a turn prints one line.
 use mathlib.Core.Path.{◌∙◌, subst}
-use Prim.Native.Nat.{◌-◌}
 use native.Mathlib.Omega.{arith}
 use borrow.Author.Count.{below_more}
 use Rattle.meaning.specs.Scalar.{plain}
@@ -19,9 +18,6 @@ put_line-next-requires c =
     let p = c.loop-j.invariant.1 in
     omega (arith, p.put.place, p.put.long, p.few)
 
-pub loop-j-smaller : goal.loop-j-smaller
-loop-j-smaller c = omega arith
-
 pub loop-j-preserved : goal.loop-j-preserved
 loop-j-preserved c =
     let l = c.loop-j in
@@ -29,12 +25,12 @@ loop-j-preserved c =
     let t = c.double.ensures ∙ number_is a.s.now a.start a.n l.j (omega arith) in
     let p = c.put_line-next.ensures in (
       omega arith,
-      printed_next _ l.invariant.1 (omega (arith, numbers-long a.s.now a.start a.n)) t p.0,
-      below_more (λ k. LinePromise a.c (at1 plain (numbers_at a.s.now a.start a.n) k)) l.j l.invariant.2 (subst (LinePromise a.c) t p.1),
+      printed_next _ l.invariant.1 (omega (arith, numbers-long a.s.now a.start a.n)) t p.line,
+      below_more (λ k. LinePromise a.c (at1 plain (numbers_at a.s.now a.start a.n) k)) l.j l.invariant.2 (subst (LinePromise a.c) t p.hull),
     )
 
 pub returns : goal.returns
 returns c =
     let a = c.args in
     let i = c.loop-j.invariant in
-    (printed_all _ i.1 (omega (arith, numbers-long a.s.now a.start a.n)), λ k h. i.2 k (omega arith))
+    record { lines = printed_all _ i.1 (omega (arith, numbers-long a.s.now a.start a.n)); hull = λ k h. i.2 k (omega arith) }

@@ -1,5 +1,5 @@
 -- `sheet_text::put_lines` meets its contract: a turn prints one line.
-use Prim.Native.Nat.{◌-◌, ◌≤◌}
+use Prim.Native.Nat.{◌≤◌}
 use Rattle.sheet_read.specs.Grammar.{numbers_at}
 use Rattle.sheet_text.specs.Promise.{LinePromises}
 use Rattle.sheet_text.proofs.Lines.{Printed}

@@ -1,6 +1,5 @@
 -- `sheet_text::take_numbers` meets its contract: a turn puts in one number.
 use mathlib.Core.Path.{◌≡◌, refl}
-use Prim.Native.Nat.{◌-◌}
 use native.Mathlib.Omega.{arith}
 use Rattle.meaning.proofs.Filling.{empty, filled, front}
 use Rattle.sheet_read.specs.Grammar.{numbers_at}

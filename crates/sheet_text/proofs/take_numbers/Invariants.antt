@@ -1,5 +1,5 @@
 -- `sheet_text::take_numbers` meets its contract: a turn puts in one number.
-use Prim.Native.Nat.{◌-◌, ◌≤◌}
+use Prim.Native.Nat.{◌≤◌}
 use lib.ListN.{length}
 use lib.Ieee.{nan}
 use Rattle.meaning.proofs.Filling.{Filled}

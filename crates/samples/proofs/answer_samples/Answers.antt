@@ -25,7 +25,7 @@ abbrev samples : After-walk-k → List Float
 samples c = let a = c.args in samples_of (record { n = a.n; xs = []; ys = []; knots = a.u.now }) a.per
 
 abbrev room_of : After-walk-k → List Float
-room_of c = c.walk-k.new.1.1.1.0
+room_of c = c.walk-k.new.room
 
 count-is : (c : After-walk-k) → c.walk-k.result ≡ length (samples c)
 count-is c =

@@ -1,6 +1,5 @@
 -- `samples::sample_pair` meets its contract: a turn puts in one sample.
 use mathlib.Core.Path.{◌≡◌, sym}
-use Prim.Native.Nat.{◌-◌}
 use native.Mathlib.Omega.{arith}
 use native.Mathlib.Numerals.{add-one}
 use lib.Seq.{paste-zero, paste-suc}

@@ -1,6 +1,6 @@
 -- `samples::sample_pair` meets its contract: a turn puts in one sample.
 use mathlib.Core.Path.{◌≡◌}
-use Prim.Native.Nat.{◌≤◌, ◌-◌}
+use Prim.Native.Nat.{◌≤◌}
 use lib.ListN.{length}
 use lib.Seq.{paste}
 use Rattle.meaning.specs.Search.{listed}

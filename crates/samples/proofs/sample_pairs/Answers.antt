@@ -23,7 +23,7 @@ loop-i-preserved c =
     let n = length_rising (at1 plain a.u.now l.i) (at1 plain a.u.now (l.i + 1)) a.per in (
       refl,
       omega arith,
-      sampled_next l.invariant.2 (omega arith) (ap length r.ensures.1 ∙ length-paste l.room l.at p (length p) (omega (arith, l.invariant.2.few, l.invariant.2.long)) (le_refl (length p))) r.ensures.0 r.ensures.1,
+      sampled_next l.invariant.2 (omega arith) (ap length r.ensures.fact_2 ∙ length-paste l.room l.at p (length p) (omega (arith, l.invariant.2.few, l.invariant.2.long)) (le_refl (length p))) r.ensures.fact_1 r.ensures.fact_2,
     )
 
 pub returns : goal.returns

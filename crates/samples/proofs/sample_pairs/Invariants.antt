@@ -1,6 +1,6 @@
 -- `samples::sample_pairs` meets its contract: a turn adds the samples of one pair.
 use mathlib.Core.Path.{◌≡◌}
-use Prim.Native.Nat.{◌+◌, ◌-◌, ◌≤◌}
+use Prim.Native.Nat.{◌+◌, ◌≤◌}
 use Rattle.samples.proofs.Sampled.{Sampled}
 use Rattle.samples.proofs.sample_pairs.Given as goal
 

@@ -11,9 +11,10 @@ use Rattle.samples.proofs.sample_rising.Goals as goal
 pub returns-then-w1-w0 : goal.returns-then-w1-w0
 returns-then-w1-w0 c =
     let a = c.args in
-    let n = length-listed 0 a.per (sample_at a.w0 a.w1 a.per) in let both = rw (all_rising a.w0 a.w1 a.per c.if-w1-w0.true, n)
-    (refl, c.sample_pair.ensures) in record { fact_1 = both.0; fact_2 = both.1; }
+    let n = length-listed 0 a.per (sample_at a.w0 a.w1 a.per) in
+    rw (all_rising a.w0 a.w1 a.per c.if-w1-w0.true, n) (record { fact_1 = refl; fact_2 = c.sample_pair.ensures })
 
 pub returns : goal.returns
 returns c =
-    let a = c.args in let both = rw (none_rising a.w0 a.w1 a.per c.if-w1-w0.false) (sym (add-zero a.at), paste-zero a.room.now a.at []) in record { fact_1 = both.0; fact_2 = both.1; }
+    let a = c.args in
+    rw (none_rising a.w0 a.w1 a.per c.if-w1-w0.false) (record { fact_1 = sym (add-zero a.at); fact_2 = paste-zero a.room.now a.at [] })

@@ -1,7 +1,7 @@
 -- `samples::walk` meets its contract: the samples of the pairs, and the domain's end behind them.
 use mathlib.Core.Path.{sym, ap, ◌∙◌}
 use mathlib.Core.List.{[], ◌++◌}
-use Prim.Native.Nat.{ℕ, ◌+◌}
+use Prim.Native.Nat.{ℕ}
 use native.Mathlib.Omega.{arith}
 use lib.ListN.{drop}
 use lib.Ieee.{Float}
@@ -18,8 +18,8 @@ returns c =
     let a = c.args in
     let shape : Shape Float = record { n = a.n; xs = []; ys = []; knots = a.u.now } in
     let l = samples_of shape a.per in
-    let k = samples_count shape a.per s.ensures.1.0 in
-    let full = samples_room shape a.per a.room.now (omega (arith, s.ensures.0)) s.ensures.1.0 s.ensures.1.1 in record {
+    let k = samples_count shape a.per s.ensures.fact_2 in
+    let full = samples_room shape a.per a.room.now (omega (arith, s.ensures.fact_1)) s.ensures.fact_2 s.ensures.fact_3 in record {
       fact_1 = (λ i. walked (sym k i) ((full ∙ ap (λ (m : ℕ). l ++ drop m a.room.now) (sym k)) i));
-      fact_2 = omega (arith, s.ensures.0);
+      fact_2 = omega (arith, s.ensures.fact_1);
     }

@@ -7,6 +7,6 @@ use Rattle.residual.proofs.variable.Goals as goal
 pub returns : goal.returns
 unfolding var_dv
 returns c = record {
-      fact_1 = λ xs h e. simp (le-leb _ _ c.requires, lt-ltb _ _ h, e);
-      fact_2 = refl;
-    }
+  fact_1 = λ xs h e. simp (le-leb _ _ c.requires, lt-ltb _ _ h, e);
+  fact_2 = refl;
+}

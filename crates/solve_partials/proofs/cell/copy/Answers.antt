@@ -15,8 +15,7 @@ loop-j-init c = (start (replicate 28 zero64), omega arith, refl, refl)
 
 pub loop-j-preserved : goal.loop-j-preserved
 loop-j-preserved c =
-    let l = c.loop-j in
-    (
+    let l = c.loop-j in (
       next l.j _ l.invariant.0 (omega arith) (omega (arith, c.requires, c.loop-j-test.true)) refl,
       omega arith,
       omega arith,

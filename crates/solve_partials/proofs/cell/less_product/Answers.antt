@@ -11,8 +11,7 @@ loop-j-init c = (start c.args.t.now, refl, refl, omega arith, omega arith, refl)
 
 pub loop-j-preserved : goal.loop-j-preserved
 loop-j-preserved c =
-    let l = c.loop-j in
-    (
+    let l = c.loop-j in (
       next l.j _ l.invariant.0 l.invariant.3 (omega (arith, c.requires, c.loop-j-test.true))
           (rw (l.invariant.0.past l.j (omega arith))),
       refl,

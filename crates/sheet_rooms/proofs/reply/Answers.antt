@@ -26,10 +26,9 @@ returns c =
     let long : length room ≡ 20878 = omega arith in
     let taken : c.least-k.result ≡ min n (length room) = c.least-k.ensures ∙ ap (min n) (sym long) in
     let e = c.answer-count.ensures in
-    let a = e.0 in (
-      replied room n taken a (simp length-replicate (omega arith)),
-      (
-        replies room n taken a (simp length-replicate (omega arith)) (omega arith),
-        (promised room n taken a (simp length-replicate (omega arith)) e.1, counted room n taken a (simp length-replicate (omega arith))),
-      ),
-    )
+    record {
+      answer = replied room n taken e.answer (simp length-replicate (omega arith));
+      whole = replies room n taken e.answer (simp length-replicate (omega arith)) (omega arith);
+      hull = promised room n taken e.answer (simp length-replicate (omega arith)) e.hull;
+      count = counted room n taken e.answer (simp length-replicate (omega arith));
+    }

@@ -5,14 +5,10 @@ use Rattle.meaning.proofs.While.{begin, turn, end}
 use Rattle.closest.specs.Search.{newton_from}
 use Rattle.closest.specs.declared.Progress.{Progress}
 use Rattle.closest.proofs.Falls.{round_falls}
-use borrow.Author.Rules.{rules}
 use Rattle.closest.proofs.newton.Goals as goal
 
 pub loop-s-init : goal.loop-s-init
 loop-s-init c = begin _ _ _ (round_falls _ _) _
-
-pub round-s-requires : goal.round-s-requires
-round-s-requires c = search rules
 
 pub loop-s-smaller : goal.loop-s-smaller
 loop-s-smaller c = rw c.round-s.ensures (round_falls _ _ _ (lt-ltb _ _ c.loop-s-test.true))

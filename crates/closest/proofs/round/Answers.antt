@@ -3,15 +3,11 @@ use lib.Ieee.{Float}
 use Rattle.plane.specs.View.{view}
 use Rattle.shape.specs.Shape.{Shape}
 use Rattle.closest.proofs.Steps.{no_descent, arrived, moved}
-use borrow.Author.Rules.{rules}
 use Rattle.closest.proofs.round.Goals as goal
 use Rattle.closest.proofs.round.Goals.{Start}
 
 abbrev shape : Start → Shape Float
 shape c = record { n = c.args.n; xs = c.args.xs.now; ys = c.args.ys.now; knots = c.args.u.now }
-
-pub slope_at-g-requires : goal.slope_at-g-requires
-slope_at-g-requires c = search rules
 
 pub returns-then-g : goal.returns-then-g
 returns-then-g c =

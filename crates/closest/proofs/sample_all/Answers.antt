@@ -1,8 +1,6 @@
 -- `closest::sample_all` meets its contract: a turn takes the samples of one pair of knots.
 use mathlib.Core.Path.{refl}
-use Prim.Native.Nat.{◌-◌}
 use native.Mathlib.Omega.{arith}
-use borrow.Author.Rules.{rules}
 use lib.Ieee.{Float, nan_bits, of_bits}
 use Rattle.meaning.proofs.For.{first, next, last}
 use Rattle.plane.specs.View.{view}
@@ -17,14 +15,8 @@ float_from_bits-infinite c = tt
 pub loop-i-init : goal.loop-i-init
 loop-i-init c = (refl, first (omega arith))
 
-pub sample_pair-best-requires : goal.sample_pair-best-requires
-sample_pair-best-requires c = search rules
-
 pub loop-i-preserved : goal.loop-i-preserved
 loop-i-preserved c = let l = c.loop-i in (l.invariant.0, next l.invariant.1 (omega arith) c.sample_pair-best.ensures)
-
-pub sample-requires : goal.sample-requires
-sample-requires c = search rules
 
 pub returns : goal.returns
 unfolding of_bits

@@ -1,6 +1,6 @@
 -- `closest::sample_all` meets its contract: a turn takes the samples of one pair of knots.
 use mathlib.Core.Path.{◌≡◌}
-use Prim.Native.Nat.{◌+◌, ◌-◌}
+use Prim.Native.Nat.{◌+◌}
 use Rattle.meaning.proofs.For.{At}
 use Rattle.plane.specs.View.{view}
 use Rattle.samples.specs.Samples.{pair_samples}

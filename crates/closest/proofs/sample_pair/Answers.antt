@@ -1,10 +1,6 @@
 -- `closest::sample_pair` meets its contract: all of the pair's samples, or none.
-use borrow.Author.Rules.{rules}
 use Rattle.closest.specs.Sampling.{through}
 use Rattle.closest.proofs.sample_pair.Goals as goal
-
-pub sample_span-requires : goal.sample_span-requires
-sample_span-requires c = search rules
 
 pub returns-then-u-i : goal.returns-then-u-i
 returns-then-u-i c = rw c.if-u-i.true c.sample_span.ensures

@@ -1,8 +1,7 @@
 -- `closest::sample_span` meets its contract: a turn takes one sample.
 use mathlib.Core.Path.{◌∙◌}
-use Prim.Native.Nat.{◌+◌, ◌-◌}
+use Prim.Native.Nat.{◌+◌}
 use native.Mathlib.Omega.{arith}
-use borrow.Author.Rules.{rules}
 use Rattle.meaning.specs.Scalar.{plain}
 use Rattle.meaning.specs.Table.{at1}
 use Rattle.meaning.proofs.For.{first, next, last}
@@ -14,9 +13,6 @@ use Rattle.closest.proofs.sample_span.Goals as goal
 
 pub loop-s-init : goal.loop-s-init
 loop-s-init c = first (omega arith)
-
-pub sample-best-requires : goal.sample-best-requires
-sample-best-requires c = search rules
 
 pub loop-s-preserved : goal.loop-s-preserved
 loop-s-preserved c = next c.loop-s.invariant (omega arith) (c.sample-best.ensures ∙ rw c.sample_at-t.ensures)

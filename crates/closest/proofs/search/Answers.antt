@@ -1,12 +1,9 @@
 -- `closest::search` meets its contract: the tests in the order of the table.
-use borrow.Author.Rules.{rules}
 use lib.Ieee.{Float}
 use Rattle.plane.specs.View.{view}
 use Rattle.shape.specs.Shape.{Shape}
 use Rattle.closest.specs.Search.{closest_answer}
 use Rattle.closest.proofs.Judged.{wild_point, wild_sample, lost, found}
-use mathlib.Core.Path.{ap}
-use mathlib.Core.Bool.{not}
 use Rattle.closest.proofs.search.Goals as goal
 use Rattle.closest.proofs.search.Goals.{After-either_wild}
 
@@ -19,26 +16,20 @@ unfolding closest_answer
 returns-then-either_wild c =
     wild_point (shape_of (goal.at.returns-then-either_wild c).After-either_wild) (view c.args.p) c.either_wild.ensures c.if-either_wild.true c.by.ensures
 
-pub sample_all-best-requires : goal.sample_all-best-requires
-sample_all-best-requires c = search rules
-
 pub returns-then-not-best : goal.returns-then-not-best
 unfolding closest_answer
 returns-then-not-best c =
-    wild_sample (shape_of (goal.at.returns-then-not-best c).After-either_wild) (view c.args.p) c.either_wild.ensures c.if-either_wild.false c.sample_all-best.ensures (ap not c.if-not-best.true)
+    wild_sample (shape_of (goal.at.returns-then-not-best c).After-either_wild) (view c.args.p) c.either_wild.ensures c.if-either_wild.false c.sample_all-best.ensures c.if-not-best.true
     c.by-then-not-best.ensures
-
-pub newton-t-requires : goal.newton-t-requires
-newton-t-requires c = search rules
 
 pub returns-then-t : goal.returns-then-t
 unfolding closest_answer
 returns-then-t c =
-    lost (shape_of (goal.at.returns-then-t c).After-either_wild) (view c.args.p) c.either_wild.ensures c.if-either_wild.false c.sample_all-best.ensures (ap not c.if-not-best.false)
+    lost (shape_of (goal.at.returns-then-t c).After-either_wild) (view c.args.p) c.either_wild.ensures c.if-either_wild.false c.sample_all-best.ensures c.if-not-best.false
     c.newton-t.ensures c.if-t.true c.by-then-t.ensures
 
 pub returns : goal.returns
 unfolding closest_answer
 returns c =
-    found (shape_of (goal.at.returns c).After-either_wild) (view c.args.p) c.either_wild.ensures c.if-either_wild.false c.sample_all-best.ensures (ap not c.if-not-best.false)
+    found (shape_of (goal.at.returns c).After-either_wild) (view c.args.p) c.either_wild.ensures c.if-either_wild.false c.sample_all-best.ensures c.if-not-best.false
     c.newton-t.ensures c.if-t.false

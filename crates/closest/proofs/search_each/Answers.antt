@@ -1,6 +1,4 @@
 -- `closest::search_each` meets its contract: a turn searches for one point.
-use Prim.Native.Nat.{◌-◌}
-use borrow.Author.Rules.{rules}
 use mathlib.Core.Path.{refl}
 use Rattle.outcome.specs.Told.{told}
 use Rattle.closest.proofs.Each.{turned_first, turned_place, turned_number, turned_next, turned_all}
@@ -8,9 +6,6 @@ use Rattle.closest.proofs.search_each.Goals as goal
 
 pub loop-k-init : goal.loop-k-init
 loop-k-init c = turned_first refl
-
-pub search-found-requires : goal.search-found-requires
-search-found-requires c = search rules
 
 pub answer_at-requires : goal.answer_at-requires
 answer_at-requires c =
@@ -22,7 +17,7 @@ answer_at-requires c =
 pub loop-k-preserved : goal.loop-k-preserved
 loop-k-preserved c =
     turned_next c.requires.fact_2 c.loop-k.invariant c.loop-k-test.true (told c.search-found.result) c.search-found.ensures
-    c.answer_at.ensures
+    (c.answer_at.ensures.fact_1, c.answer_at.ensures.fact_2)
 
 pub returns : goal.returns
 returns c = turned_all c.loop-k.invariant c.loop-k-test.false

@@ -1,5 +1,4 @@
 -- `closest::search_each` meets its contract: a turn searches for one point.
-use Prim.Native.Nat.{◌-◌}
 use Rattle.shape.specs.Trusting.{trusting}
 use Rattle.closest.proofs.Each.{Turned}
 use Rattle.closest.proofs.search_each.Given as goal

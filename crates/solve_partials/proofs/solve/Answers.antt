@@ -11,7 +11,11 @@ pub returns-then-not-has_room : goal.returns-then-not-has_room
 unfolding solution_in doubles_left counts_left
 returns-then-not-has_room c =
     let no = sym c.has_room.ensures ∙ not-true _ (ap not c.if-not-has_room.true) in
-    (rw no c.unsolved.ensures, (rw no, rw no))
+    record {
+      answers = rw no c.unsolved.ensures;
+      doubles = rw no;
+      counts = rw no;
+    }
 
 pub solve_front-requires : goal.solve_front-requires
 solve_front-requires c =
@@ -23,4 +27,8 @@ unfolding solution_in doubles_left counts_left
 returns c =
     let call = c.solve_front.ensures in
     let yes = sym c.has_room.ensures ∙ not-false _ (ap not c.if-not-has_room.false) in
-    (rw yes call.0, (rw yes call.1.0, rw yes call.1.1))
+    record {
+      answers = rw yes call.answers;
+      doubles = rw yes call.doubles;
+      counts = rw yes call.counts;
+    }

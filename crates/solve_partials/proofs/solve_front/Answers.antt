@@ -39,10 +39,8 @@ returns c =
     let m = a.m in
     let w = a.w.now in
     let ns = a.ns.now in
-    let e = room_of m * (a.c + 1) in (
-      call.0 (rows_in m a.c w ns) _ (held_front a.c (room_of m) w ns c.requires.2 c.requires.3 ∙ front_rows m a.c w ns) (front_shaped m a.c w ns),
-      (
-        ap (λ (t : List Float). t ++ drop e w) (call.1.0 ∙ ap (λ (n : ℕ). replicate n zero64) (doubles-long (goal.at.returns c).Start)),
-        ap (λ (t : List ℕ). t ++ drop (room_of m) ns) (call.1.1 ∙ ap (λ (n : ℕ). replicate n 0) (counts-long (goal.at.returns c).Start)),
-      ),
-    )
+    let e = room_of m * (a.c + 1) in record {
+      answers = call.answers (rows_in m a.c w ns) _ (held_front a.c (room_of m) w ns c.requires.2 c.requires.3 ∙ front_rows m a.c w ns) (front_shaped m a.c w ns);
+      doubles = ap (λ (t : List Float). t ++ drop e w) (call.doubles ∙ ap (λ (n : ℕ). replicate n zero64) (doubles-long (goal.at.returns c).Start));
+      counts = ap (λ (t : List ℕ). t ++ drop (room_of m) ns) (call.counts ∙ ap (λ (n : ℕ). replicate n 0) (counts-long (goal.at.returns c).Start));
+    }

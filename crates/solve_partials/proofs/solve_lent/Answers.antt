@@ -30,10 +30,10 @@ rows_in k = k.args.m
 
 -- the slices and the order that the solve leaves
 abbrev held_of : After-solve_rows-fine → List Dv
-held_of k = held k.args.c k.solve_rows-fine.new.0 k.solve_rows-fine.new.1.0
+held_of k = held k.args.c k.solve_rows-fine.new.w k.solve_rows-fine.new.ns
 
 abbrev order-of : After-solve_rows-fine → List ℕ
-order-of k = k.solve_rows-fine.new.1.1.0
+order-of k = k.solve_rows-fine.new.order
 
 -- the rows that lie in the slices at first lie there in order: what the solve makes of them
 solved-in : (k : After-solve_rows-fine) → let a = k.args in
@@ -47,41 +47,41 @@ solved-in k M rest e sh =
 pub four_of-xs-requires : goal.four_of-xs-requires
 four_of-xs-requires c =
     let p = c.requires in
-    let kept = c.solve_rows-fine.auto in
-    (room-kept p.0 (omega (arith, kept)) (omega (arith, kept)), omega (arith, kept, p.1), omega arith, c.solve_rows-fine.ensures.stays)
+    (room-kept p.0 (omega arith) (omega arith), omega (arith, p.1), omega arith, c.solve_rows-fine.ensures.stays)
 
 pub four_of-ys-requires : goal.four_of-ys-requires
 four_of-ys-requires c =
     let p = c.requires in
-    let kept = c.solve_rows-fine.auto in
-    (room-kept p.0 (omega (arith, kept)) (omega (arith, kept)), omega (arith, kept, p.1), omega arith, c.solve_rows-fine.ensures.stays)
+    (room-kept p.0 (omega arith) (omega arith), omega (arith, p.1), omega arith, c.solve_rows-fine.ensures.stays)
 
 -- what the clearing leaves
-left-doubles : (c : After-clear) → c.clear.new.0 ≡ replicate (length c.args.w.now) zero64
+left-doubles : (c : After-clear) → c.clear.new.t ≡ replicate (length c.args.w.now) zero64
 left-doubles c =
-    let e : length c.solve_rows-fine.last.0 ≡ length c.args.w.now = omega (arith, c.solve_rows-fine.kept) in
+    let e : length c.solve_rows-fine.new.w ≡ length c.args.w.now = omega arith in
     c.clear.ensures ∙ ap (λ (n : ℕ). replicate n zero64) e
 
-left-counts : (c : After-clear_bytes) → c.clear_bytes.new.0 ≡ replicate (length c.args.ns.now) 0
+left-counts : (c : After-clear_bytes) → c.clear_bytes.new.t ≡ replicate (length c.args.ns.now) 0
 left-counts c =
-    let e : length c.solve_rows-fine.last.1.0 ≡ length c.args.ns.now = omega (arith, c.solve_rows-fine.kept) in
+    let e : length c.solve_rows-fine.new.ns ≡ length c.args.ns.now = omega arith in
     c.clear_bytes.ensures ∙ ap (λ (n : ℕ). replicate n 0) e
 
 pub returns-then-fine : goal.returns-then-fine
 returns-then-fine c =
-    let a = c.args in (
-      λ M rest e sh.
+    let a = c.args in record {
+      answers = λ M rest e sh.
           let one = solved-in (goal.at.returns-then-fine c).After-solve_rows-fine M rest e sh in
           let shN = solved_shaped dual a.m (a.m + 2) M sh in
           let xs = c.four_of-xs.ensures (solved dual a.m M) rest one.0 shN in
           let ys = c.four_of-ys.ensures (solved dual a.m M) rest one.0 shN in
-          fine-four a.m a.at M one.1 c.if-fine.true xs ys,
-      (left-doubles (goal.at.returns-then-fine c).After-clear, left-counts (goal.at.returns-then-fine c).After-clear_bytes),
-    )
+          fine-four a.m a.at M one.1 c.if-fine.true xs ys;
+      doubles = left-doubles (goal.at.returns-then-fine c).After-clear;
+      counts = left-counts (goal.at.returns-then-fine c).After-clear_bytes;
+    }
 
 pub returns : goal.returns
 returns c =
-    let a = c.args in (
-      λ M rest e sh. c.unsolved.ensures ∙ none-four a.m a.at M (solved-in (goal.at.returns c).After-solve_rows-fine M rest e sh).1 c.if-fine.false,
-      (left-doubles (goal.at.returns c).After-clear, left-counts (goal.at.returns c).After-clear_bytes),
-    )
+    let a = c.args in record {
+      answers = λ M rest e sh. c.unsolved.ensures ∙ none-four a.m a.at M (solved-in (goal.at.returns c).After-solve_rows-fine M rest e sh).1 c.if-fine.false;
+      doubles = left-doubles (goal.at.returns c).After-clear;
+      counts = left-counts (goal.at.returns c).After-clear_bytes;
+    }

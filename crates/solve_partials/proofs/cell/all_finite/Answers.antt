@@ -1,5 +1,5 @@
 -- `solve_partials::cell::all_finite` meets its contract: the flag is up where one of the numbers below j is not finite.
-use Prim.Native.Nat.{ℕ, ◌+◌, ◌-◌}
+use Prim.Native.Nat.{ℕ, ◌+◌}
 use mathlib.Core.Path.{◌≡◌, refl, ap, ◌∙◌}
 use mathlib.Core.Bool.{Bool, not, not-not}
 use native.Mathlib.Omega.{arith}

@@ -1,5 +1,5 @@
 -- `solve_partials::cell::copy` meets its contract: the numbers below j are copied.
-use Prim.Native.Nat.{◌+◌, ◌-◌}
+use Prim.Native.Nat.{◌+◌}
 use mathlib.Core.Path.{◌≡◌, refl, ◌∙◌}
 use native.Mathlib.Omega.{arith}
 use lib.ListN.{replicate, get_or-replicate}

@@ -1,5 +1,5 @@
 -- `solve_partials::cell::copy` meets its contract: the numbers below j are copied.
-use Prim.Native.Nat.{◌+◌, ◌-◌, ◌≤◌}
+use Prim.Native.Nat.{◌+◌, ◌≤◌}
 use mathlib.Core.Path.{◌≡◌}
 use lib.ListN.{length, replicate}
 use lib.Ieee.{nan}

@@ -1,5 +1,4 @@
 -- `solve_partials::cell::fill` meets its contract: the numbers from lo on, below j, are +0.0.
-use Prim.Native.Nat.{◌-◌}
 use mathlib.Core.Path.{refl}
 use native.Mathlib.Omega.{arith}
 use Rattle.meaning.specs.Scalar.{zero64}

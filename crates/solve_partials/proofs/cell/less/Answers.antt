@@ -14,4 +14,4 @@ returns c =
     let done = c.subtract-count in
     let call = done.ensures in
     let h = c.requires in
-    (call.0, (call.1, c.all_finite-fine.ensures ∙ sym (fine-value (numbered done.new.0) done.result (omega (arith, h, call.0))) ∙ ap fine_dv call.1))
+    (call.0, (call.1, c.all_finite-fine.ensures ∙ sym (fine-value (numbered done.new.t) done.result (omega (arith, h, call.0))) ∙ ap fine_dv call.1))

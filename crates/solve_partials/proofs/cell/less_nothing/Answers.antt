@@ -1,5 +1,4 @@
 -- `solve_partials::cell::less_nothing` meets its contract: from the numbers from lo on, below j, +0.0 is taken off.
-use Prim.Native.Nat.{◌-◌}
 use mathlib.Core.Path.{refl, ap}
 use native.Mathlib.Omega.{arith}
 use lib.Ieee.{Float, binary64, sub}

@@ -1,5 +1,4 @@
 -- `solve_partials::cell::less_product` meets its contract: from the partials below j those of the product are taken off.
-use Prim.Native.Nat.{◌-◌}
 use mathlib.Core.Path.{refl}
 use native.Mathlib.Omega.{arith}
 use Rattle.solve_partials.proofs.Sweeps.{start, next, over}

@@ -1,5 +1,5 @@
 -- `solve_partials::cell::less_product` meets its contract: from the partials below j those of the product are taken off.
-use Prim.Native.Nat.{◌-◌, ◌≤◌}
+use Prim.Native.Nat.{◌≤◌}
 use mathlib.Core.Path.{◌≡◌}
 use lib.ListN.{length}
 use lib.Ieee.{nan}

@@ -1,5 +1,4 @@
 -- `solve_partials::dense::eliminate` meets its contract: the columns below col are eliminated, and the flag is their verdict.
-use Prim.Native.Nat.{◌-◌}
 use native.Mathlib.Omega.{arith}
 use mathlib.Core.Path.{refl, sym, ◌∙◌}
 use Rattle.partials.specs.Dual.{dual}
@@ -24,12 +23,15 @@ loop-col-preserved c =
     let call = c.eliminate_column in
     let l = c.loop-col in
     let a = c.args in (
-      further l.invariant.0 (column_shaped dual a.m a.s) c.loop-col-test.true call.ensures.0 call.ensures.1
-          (held-long a.c _ _ ∙ omega (arith, call.auto) ∙ sym (held-long a.c l.w l.ns)) c.both-fine.ensures,
-      omega (arith, call.auto, l.invariant.1),
-      omega (arith, call.auto, l.invariant.2),
+      further l.invariant.0 (column_shaped dual a.m a.s) c.loop-col-test.true call.ensures.stays call.ensures.becomes
+          (held-long a.c _ _ ∙ omega arith ∙ sym (held-long a.c l.w l.ns)) c.both-fine.ensures,
+      omega (arith, l.invariant.1),
+      omega (arith, l.invariant.2),
     )
 
 pub returns : goal.returns
 unfolding eliminated eliminated_ok
-returns c = (c.loop-col.invariant.0.stays, over c.loop-col.invariant.0 (omega arith))
+returns c = record {
+  stays = c.loop-col.invariant.0.stays;
+  becomes = over c.loop-col.invariant.0 (omega arith);
+}

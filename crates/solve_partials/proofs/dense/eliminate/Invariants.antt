@@ -1,5 +1,4 @@
 -- `solve_partials::dense::eliminate` meets its contract: the columns below col are eliminated, and the flag is their verdict.
-use Prim.Native.Nat.{◌-◌}
 use mathlib.Core.Path.{◌≡◌}
 use lib.ListN.{length}
 use Rattle.partials.specs.Dual.{dual}

@@ -29,10 +29,10 @@ find_pivot-best-requires c =
 best : (x : After-exchange) → x.find_pivot-best.result < x.args.m
 best x = omega (arith, x.find_pivot-best.ensures.within, x.requires.2)
 
-next-is : (x : After-exchange) → let a = x.args in x.exchange.new.0 ≡ exchanged_in a.order.now a.col x.find_pivot-best.result
+next-is : (x : After-exchange) → let a = x.args in x.exchange.new.order ≡ exchanged_in a.order.now a.col x.find_pivot-best.result
 next-is x = x.exchange.ensures
 
-stays : (x : After-exchange) → Order x.args.m x.exchange.new.0
+stays : (x : After-exchange) → Order x.args.m x.exchange.new.order
 stays x = next_order x.requires.4 x.args.col x.find_pivot-best.result x.requires.2 (best x) (next-is x)
 
 pub reduce_rows-requires : goal.reduce_rows-requires
@@ -43,10 +43,10 @@ reduce_rows-requires c =
 pub returns : goal.returns
 unfolding pivoted column_done column_ok
 returns c =
-    let a = c.args in (
-      stays (goal.at.returns c).After-exchange,
-      λ M rest e sh.
+    let a = c.args in record {
+      stays = stays (goal.at.returns c).After-exchange;
+      becomes = λ M rest e sh.
           let is = c.find_pivot-best.ensures.greatest a.ns.now c.requires.1 M rest e sh ∙ best_is dual a.m a.col M c.requires.2 in
           let moved = next_rows c.requires.4 a.col _ c.requires.2 (best (goal.at.returns c).After-exchange) (next-is (goal.at.returns c).After-exchange) dual M rest (held a.c a.w.now a.ns.now) sh.count is e in
-          c.reduce_rows.ensures (pivoted dual a.m a.col M) rest moved (pivoted_shaped dual a.m a.s a.col M c.requires.2 sh),
-    )
+          c.reduce_rows.ensures (pivoted dual a.m a.col M) rest moved (pivoted_shaped dual a.m a.s a.col M c.requires.2 sh);
+    }

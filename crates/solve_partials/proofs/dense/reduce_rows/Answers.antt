@@ -1,5 +1,4 @@
 -- `solve_partials::dense::reduce_rows` meets its contract: the rows below r are reduced, and the flag is their verdict.
-use Prim.Native.Nat.{◌-◌}
 use native.Mathlib.Omega.{arith}
 use mathlib.Core.Path.{refl, ap, ◌∙◌}
 use mathlib.Core.List.{List, []}
@@ -76,8 +75,8 @@ loop-r-preserved c =
           c.both-fine.ensures,
       omega arith,
       omega arith,
-      omega (arith, call.auto, l.invariant.3),
-      omega (arith, call.auto, l.invariant.4),
+      omega (arith, l.invariant.3),
+      omega (arith, l.invariant.4),
     )
 
 pub returns : goal.returns

@@ -1,5 +1,5 @@
 -- `solve_partials::dense::reduce_rows` meets its contract: the rows below r are reduced, and the flag is their verdict.
-use Prim.Native.Nat.{◌≤◌, ◌-◌, ◌<◌}
+use Prim.Native.Nat.{◌≤◌, ◌<◌}
 use mathlib.Core.Path.{◌≡◌}
 use mathlib.Core.List.{[]}
 use lib.ListN.{length, get_or}

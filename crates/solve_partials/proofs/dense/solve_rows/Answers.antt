@@ -17,16 +17,15 @@ eliminate-first-requires c = (c.requires.0, c.requires.1, omega arith, c.require
 pub substitute-second-requires : goal.substitute-second-requires
 substitute-second-requires c =
     let p = c.requires in
-    let kept = c.eliminate-first.auto in
-    (room-kept p.0 (omega (arith, kept)) (omega (arith, kept)), omega (arith, kept, p.1), omega arith, c.eliminate-first.ensures.stays)
+    (room-kept p.0 (omega arith) (omega arith), omega (arith, p.1), omega arith, c.eliminate-first.ensures.stays)
 
 pub returns : goal.returns
 unfolding solved
 returns c =
-    let m = c.args.m in (
-      c.eliminate-first.ensures.stays,
-      λ M rest q sh.
+    let m = c.args.m in record {
+      stays = c.eliminate-first.ensures.stays;
+      becomes = λ M rest q sh.
           let one = c.eliminate-first.ensures.becomes M rest q sh in
           let two = c.substitute-second.ensures (eliminated dual m m M) rest one.0 (eliminated_shaped dual m (m + 2) m M (omega arith) sh) in
-          (two.0, c.both.ensures ∙ (λ i. one.1 i && two.1 i) ∙ sym (solved_along dual m M sh)),
-    )
+          (two.0, c.both.ensures ∙ (λ i. one.1 i && two.1 i) ∙ sym (solved_along dual m M sh));
+    }

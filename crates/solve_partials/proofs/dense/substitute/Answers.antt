@@ -25,9 +25,9 @@ loop-i-preserved c =
     let l = c.loop-i in
     let a = c.args in (
       further l.invariant.0 (λ i N h. answered_shaped dual a.m a.s a.m N (a.m - 1 - i) (a.m - 1 - i) i (omega arith)) c.loop-i-test.true c.requires.3 call.ensures
-          (held-long a.c _ _ ∙ omega (arith, call.auto) ∙ sym (held-long a.c l.w l.ns)) c.both-fine.ensures,
-      omega (arith, call.auto, l.invariant.1),
-      omega (arith, call.auto, l.invariant.2),
+          (held-long a.c _ _ ∙ omega arith ∙ sym (held-long a.c l.w l.ns)) c.both-fine.ensures,
+      omega (arith, l.invariant.1),
+      omega (arith, l.invariant.2),
     )
 
 pub returns : goal.returns

@@ -1,5 +1,4 @@
 -- `solve_partials::dense::substitute` meets its contract: the last i rows are answered, and the flag is their verdict.
-use Prim.Native.Nat.{◌-◌}
 use mathlib.Core.Path.{◌≡◌}
 use lib.ListN.{length}
 use Rattle.partials.specs.Dual.{dual}

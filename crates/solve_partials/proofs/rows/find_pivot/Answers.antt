@@ -2,7 +2,6 @@
 use Prim.Native.Nat.{ℕ, ◌-◌, ◌<◌, ◌+◌, ◌*◌}
 use native.Mathlib.Omega.{arith}
 use mathlib.Core.Path.{◌≡◌, sym, ap, ◌∙◌}
-use mathlib.Core.Logic.{⊎_elim}
 use mathlib.Core.List.{List}
 use lib.ListN.{length}
 use Rattle.meaning.specs.Number.{at_least}
@@ -17,7 +16,7 @@ use Rattle.solve_partials.specs.Held.{held}
 use Rattle.solve_partials.proofs.Turns.{inside}
 use Rattle.solve_partials.proofs.Places.{cell_end, placed-value}
 use Rattle.solve_partials.proofs.rows.find_pivot.Goals as goal
-use Rattle.solve_partials.proofs.rows.find_pivot.Goals.{In-loop-r, Start}
+use Rattle.solve_partials.proofs.rows.find_pivot.Goals.{In-loop-r, Start, then-at_least, else-at_least}
 
 -- row lo lies within the rows, and so does the row that a turn reads
 low : (b : Start) → place_of b.args.order.now b.args.lo < b.args.m
@@ -84,22 +83,22 @@ loop-r-preserved c =
     let new = c.value_at-v.ensures ∙ value l.r a.k in_rows c.requires.1 in
     let old = l.invariant.3 ∙ value l.best a.k (omega (arith, l.invariant.1, in_rows)) c.requires.1 in
     call.ensures ∙ (λ t. at_least (new t) (old t)) in
-    ⊎_elim
-    (λ w. (
-      omega arith,
-      omega arith,
-      omega arith,
-      w.2 ∙ c.value_at-v.ensures ∙ rw w.1,
-      λ ns n M rest e sh. next (l.invariant.4 ns n M rest e sh) (omega arith) (w.1 ∙ rw (sym (asked ns n M rest e sh) ∙ w.0.taken)),
-    ))
-    (λ w. (
-      omega arith,
-      omega arith,
-      omega arith,
-      w.2 ∙ l.invariant.3 ∙ rw w.1,
-      λ ns n M rest e sh. next (l.invariant.4 ns n M rest e sh) (omega arith) (w.1 ∙ rw (sym (asked ns n M rest e sh) ∙ w.0.left)),
-    ))
-    c.if-at_least.branch
+    elim c.if-at_least.branch [
+      | then-at_least w ↦ (
+        omega arith,
+        omega arith,
+        omega arith,
+        w.top-is ∙ c.value_at-v.ensures ∙ rw w.best-is,
+        λ ns n M rest e sh. next (l.invariant.4 ns n M rest e sh) (omega arith) (w.best-is ∙ rw (sym (asked ns n M rest e sh) ∙ w.if-at_least.true)),
+      )
+      | else-at_least w ↦ (
+        omega arith,
+        omega arith,
+        omega arith,
+        w.top-is ∙ l.invariant.3 ∙ rw w.best-is,
+        λ ns n M rest e sh. next (l.invariant.4 ns n M rest e sh) (omega arith) (w.best-is ∙ rw (sym (asked ns n M rest e sh) ∙ w.if-at_least.false)),
+      )
+    ]
 
 pub returns : goal.returns
 unfolding best_among
@@ -107,4 +106,7 @@ returns c =
     let a = c.args in
     let l = c.loop-r in
     let e : a.lo + 1 + a.n - (a.lo + 1) ≡ a.n = omega arith in
-    (omega arith, λ ns n M rest q sh. last (l.invariant.4 ns n M rest q sh) (omega arith) ∙ ap (λ (n : ℕ). turns (a.lo + 1) n (better dual M a.k) a.lo) e)
+    record {
+      within = omega arith;
+      greatest = λ ns n M rest q sh. last (l.invariant.4 ns n M rest q sh) (omega arith) ∙ ap (λ (n : ℕ). turns (a.lo + 1) n (better dual M a.k) a.lo) e;
+    }

@@ -1,5 +1,5 @@
 -- `solve_partials::rows::remaining` meets its contract: the terms of the rows passed are taken off.
-use Prim.Native.Nat.{◌+◌, ◌-◌, ◌*◌, ◌≤◌, ◌<◌}
+use Prim.Native.Nat.{◌+◌, ◌*◌, ◌≤◌, ◌<◌}
 use native.Mathlib.Nat.{min-eq_left}
 use native.Mathlib.Omega.{arith}
 use mathlib.Core.Path.{◌≡◌, sym, ap, ◌∙◌, subst}
@@ -32,7 +32,7 @@ below : (c : In-loop-i) → let a = c.args in place_of a.order.now (a.r + 1 + c.
 below c = inside _ c.args.b c.args.m c.args.s (c.requires.5.within _ (within c)) c.requires.3
 
 factor : (c : In-loop-i) → let a = c.args in place_of a.order.now a.r * a.s + (a.r + 1 + c.loop-i.i) < a.m * a.s
-factor c = inside _ _ c.args.m c.args.s (c.requires.5.within _ (own c.before.before.before.before.before.before.before.before)) (omega (arith, within c, c.requires.4))
+factor c = inside _ _ c.args.m c.args.s (c.requires.5.within _ (omega (arith, c.requires.2))) (omega (arith, within c, c.requires.4))
 
 pub offset_bounds-order-r : goal.offset_bounds-order-r
 offset_bounds-order-r c = omega (arith, own (goal.at.offset_bounds-order-r c).Start, c.requires.5.few)
@@ -94,7 +94,7 @@ loop-i-preserved c =
     let call = c.less_term-n in
     let H = held a.c a.w.now a.ns.now in (
       call.ensures.0,
-      call.auto.0 ∙ l.invariant.1,
+      call.auto.acc ∙ l.invariant.1,
       omega arith,
       λ M rest e sh.
           let x = read-placed c.requires.5 M rest H (a.r + 1 + l.i) e sh (within (goal.at.loop-i-preserved c).In-loop-i) a.b c.requires.3 dual.off in

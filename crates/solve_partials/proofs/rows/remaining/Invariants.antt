@@ -1,5 +1,5 @@
 -- `solve_partials::rows::remaining` meets its contract: the terms of the rows passed are taken off.
-use Prim.Native.Nat.{◌-◌, ◌≤◌}
+use Prim.Native.Nat.{◌≤◌}
 use mathlib.Core.Path.{◌≡◌}
 use lib.ListN.{length}
 use Rattle.partials.specs.Dual.{dual}

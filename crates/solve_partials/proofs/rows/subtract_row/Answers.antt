@@ -1,28 +1,21 @@
 -- `solve_partials::rows::subtract_row` meets its contract: the numbers below k are worked out, and the flag is their verdict.
-use Prim.Native.Nat.{ℕ, ◌≤◌, ◌-◌, ◌<◌, ◌+◌, ◌*◌}
+use Prim.Native.Nat.{ℕ, ◌≤◌, ◌<◌, ◌+◌, ◌*◌}
 use native.Mathlib.Omega.{arith}
 use mathlib.Core.Path.{◌≡◌, refl, sym, ap, ◌∙◌}
-use mathlib.Core.Bool.{Bool}
 use mathlib.Core.List.{List, []}
 use lib.ListN.{get_or}
-use lib.Ieee.{Float}
 use Rattle.meaning.specs.Search.{every}
 use Rattle.meaning.proofs.Every.{every_next}
 use Rattle.partials.specs.declared.Dv.{Dv}
 use Rattle.partials.specs.Dual.{dual, fine_dv}
-use Rattle.solve.specs.Rows.{flat, Shaped}
+use Rattle.solve.specs.Rows.{flat}
 use Rattle.solve.specs.Verdicts.{fine_at, subtracted_ok}
 use Rattle.solve.proofs.Steps.{fine_start, fine-at}
 use Rattle.solve_partials.specs.Held.{held, valued}
 use Rattle.solve_partials.proofs.Cells.{room-kept}
 use Rattle.solve_partials.proofs.Turns.{inside, lessened, lessened_start, lessened_end, lessened_value, lessened_next}
 use Rattle.solve_partials.proofs.rows.subtract_row.Goals as goal
-use Rattle.solve_partials.proofs.rows.subtract_row.Goals.{After-reduce_cell-arg-in-loop-k-1}
-
--- the slices once the loop is at k
-record Done (c m s col p t k : ℕ) (f : Dv) (M : List (List Dv)) (rest : List Dv) (g : p < m) (h : t < m) (n : p ≡ t → ⊥) (sh : Shaped m s M) (w : List Float) (ns : List ℕ) (fine : Bool) : Type 0 where
-  rows : held c w ns ≡ flat (lessened dual m s col p t f M g h n sh k) rest
-  verdict : fine ≡ every k (fine_at dual m col f (get_or M p []) (get_or M t []))
+use Rattle.solve_partials.proofs.rows.subtract_row.Goals.{In-loop-k}
 
 pub loop-k-init : goal.loop-k-init
 loop-k-init c =
@@ -40,33 +33,33 @@ loop-k-init c =
     )
 
 -- the cells of a turn are there
-cell-t : (c : After-reduce_cell-arg-in-loop-k-1) → let a = c.args in a.t * a.s + c.loop-k.k < a.m * a.s
+cell-t : (c : In-loop-k) → let a = c.args in a.t * a.s + c.loop-k.k < a.m * a.s
 cell-t c =
     inside c.args.t _ c.args.m c.args.s c.requires.3 c.loop-k-test.true
 
-cell-p : (c : After-reduce_cell-arg-in-loop-k-1) → let a = c.args in a.p * a.s + c.loop-k.k < a.m * a.s
+cell-p : (c : In-loop-k) → let a = c.args in a.p * a.s + c.loop-k.k < a.m * a.s
 cell-p c =
     inside c.args.p _ c.args.m c.args.s c.requires.2 c.loop-k-test.true
 
-few : (c : After-reduce_cell-arg-in-loop-k-1) → let a = c.args in a.m * a.s ≤ 224
+few : (c : In-loop-k) → let a = c.args in a.m * a.s ≤ 224
 few c = omega (arith, c.requires.0.few, c.requires.1)
 
 pub overflow_mul-t : goal.overflow_mul-t
-overflow_mul-t c = omega (arith, cell-t c, few c)
+overflow_mul-t c = omega (arith, cell-t (goal.at.overflow_mul-t c).In-loop-k, few (goal.at.overflow_mul-t c).In-loop-k)
 
 pub overflow_add-t : goal.overflow_add-t
-overflow_add-t c = omega (arith, cell-t c, few c)
+overflow_add-t c = omega (arith, cell-t (goal.at.overflow_add-t c).In-loop-k, few (goal.at.overflow_add-t c).In-loop-k)
 
 pub overflow_mul-p : goal.overflow_mul-p
-overflow_mul-p c = omega (arith, cell-p c, few c)
+overflow_mul-p c = omega (arith, cell-p (goal.at.overflow_mul-p c).In-loop-k, few (goal.at.overflow_mul-p c).In-loop-k)
 
 pub overflow_add-p : goal.overflow_add-p
-overflow_add-p c = omega (arith, cell-p c, few c)
+overflow_add-p c = omega (arith, cell-p (goal.at.overflow_add-p c).In-loop-k, few (goal.at.overflow_add-p c).In-loop-k)
 
 pub reduce_cell-requires : goal.reduce_cell-requires
 reduce_cell-requires c =
     let l = c.loop-k in
-    (room-kept c.requires.0 l.invariant.3 l.invariant.4, omega (arith, cell-t c, c.requires.1, l.invariant.4), omega (arith, cell-p c, c.requires.1, l.invariant.4), c.requires.6, c.requires.7)
+    (room-kept c.requires.0 l.invariant.3 l.invariant.4, omega (arith, cell-t (goal.at.reduce_cell-requires c).In-loop-k, c.requires.1, l.invariant.4), omega (arith, cell-p (goal.at.reduce_cell-requires c).In-loop-k, c.requires.1, l.invariant.4), c.requires.6, c.requires.7)
 
 pub loop-k-preserved : goal.loop-k-preserved
 loop-k-preserved c =
@@ -85,8 +78,8 @@ loop-k-preserved c =
           },
       omega arith,
       omega arith,
-      omega (arith, call.auto, l.invariant.3),
-      omega (arith, call.auto, l.invariant.4),
+      omega (arith, l.invariant.3),
+      omega (arith, l.invariant.4),
     )
 
 pub returns : goal.returns

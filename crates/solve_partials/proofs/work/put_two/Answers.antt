@@ -7,4 +7,4 @@ returns c =
     let one = c.put.ensures in
     let two = c.put-2.ensures in
     let a = c.args in
-    two_put c.requires.0 a.i a.j c.requires.1 c.requires.2 a.x a.y c.requires.3 c.requires.4 one.0 one.1 two.0 two.1
+    two_put c.requires.0 a.i a.j c.requires.1 c.requires.2 a.x a.y c.requires.3 c.requires.4 one.fact_1 one.fact_2 two.fact_1 two.fact_2

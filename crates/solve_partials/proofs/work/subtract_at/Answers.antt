@@ -37,7 +37,7 @@ returns c =
     let v : Dv → Dv = λ x. sub_dv x (mul_dv (valued a.a.now a.na) (valued a.b.now a.nb)) in
     let i = a.k * (a.c + 1) in
     let old = ap (valued (take (i + (a.c + 1) - i) (drop i a.w.now))) c.count-old.ensures ∙ lent_cell c.requires.0 a.k c.requires.1 in (
-      back_cell c.requires.0 a.k c.requires.1 call.new.0 call.result.count (call.auto.0 ∙ lent-long c.requires.0 a.k c.requires.1) (omega (arith, call.ensures.0, c.count-old.ensures, c.requires))
+      back_cell c.requires.0 a.k c.requires.1 call.new.t call.result.count (call.auto.t ∙ lent-long c.requires.0 a.k c.requires.1) (omega (arith, call.ensures.0, c.count-old.ensures, c.requires))
           ∙ ap (set H a.k) (call.ensures.1.0 ∙ ap v old),
       call.ensures.1.1 ∙ ap (λ (x : Dv). fine_dv (v x)) old,
     )

@@ -16,9 +16,12 @@ judged c = let a = c.args in c.both.ensures ∙ ap (λ (b : Bool). a.fine && b) 
 pub returns-then-not-both : goal.returns-then-not-both
 returns-then-not-both c =
     let h = not_told (judged (goal.at.returns-then-not-both c).After-both) (ap not c.if-not-both.true) in
-    (stop 14 c.by.ensures h, stop 14 c.by.ensures h)
+    record { leaves = stop 14 c.by.ensures h; leaves_2 = stop 14 c.by.ensures h }
 
 pub returns : goal.returns
 returns c =
     let h = not_told (judged (goal.at.returns c).After-both) (ap not c.if-not-both.false) in
-    (pass 15 h (done c.by-2.ensures c.write_values.ensures), pass 15 h (done c.by-2.ensures c.write_rows.ensures))
+    record {
+      leaves = pass 15 h (done c.by-2.ensures c.write_values.ensures);
+      leaves_2 = pass 15 h (done c.by-2.ensures c.write_rows.ensures);
+    }

@@ -16,10 +16,10 @@ pub overflow_mul-result : goal.overflow_mul-result
 overflow_mul-result c = omega (arith, few c)
 
 pub returns-in-Control : goal.returns-in-Control
-returns-in-Control c = let both = rw c.enum_told-1.given.1 (omega arith) in record { fact_1 = both.0; fact_2 = both.1 }
+returns-in-Control c = record { fact_1 = rw c.in-Control.is; fact_2 = omega arith }
 
 pub returns-in-Fit : goal.returns-in-Fit
 returns-in-Fit c = record {
-  fact_1 = rw c.enum_told-in-Fit-1.given.1;
+  fact_1 = rw c.in-Fit.is;
   fact_2 = few c;
 }

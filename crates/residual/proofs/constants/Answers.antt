@@ -1,7 +1,6 @@
 -- `residual::constants` meets its contract: a turn stores one knot.
 use native.Mathlib.Omega.{arith}
 use mathlib.Core.Path.{refl}
-use Prim.Native.Nat.{◌-◌}
 use Rattle.meaning.proofs.Filling.{empty, filled, full}
 use Rattle.residual.proofs.constants.Goals as goal
 

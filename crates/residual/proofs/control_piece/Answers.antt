@@ -1,6 +1,6 @@
 -- `residual::control_piece` meets its contract.
 use mathlib.Core.Path.{refl}
-use Prim.Native.Nat.{◌-◌, ◌<◌}
+use Prim.Native.Nat.{◌<◌}
 use native.Mathlib.Omega.{arith}
 use Rattle.shape.specs.Shape.{points_in}
 use Rattle.residual.proofs.Controls.{room, control-read}
@@ -12,7 +12,7 @@ use Rattle.residual.proofs.control_piece.Goals.{After-span-i}
 below : (c : After-span-i) → c.span-i.result < points_in c.args.q.now
 below c =
     let a = c.args in
-    c.span-i.ensures.fact_2.1.1.1 (room a.q.now a.given a.knots.now c.requires).0
+    c.span-i.ensures.fact_5 (room a.q.now a.given a.knots.now c.requires).0
 
 pub bounds-u-n : goal.bounds-u-n
 bounds-u-n c =
@@ -30,9 +30,9 @@ four-ys-requires c = omega (arith, below (goal.at.four-ys-requires c).After-span
 
 pub returns : goal.returns
 returns c =
-    let a = c.args in (
-      control-read a.q.now a.given a.knots.now c.requires c.stored_knots-u.ensures a.t c.span-i.result _ refl refl
-          (rw c.clamp.ensures at c.span-i.ensures.fact_2.0) c.span-i.ensures.fact_2.1.0 (below (goal.at.returns c).After-span-i) c.constants-six.ensures
-          c.four-xs.ensures c.four-ys.ensures,
-      refl,
-    )
+    let a = c.args in record {
+      read = control-read a.q.now a.given a.knots.now c.requires c.stored_knots-u.ensures a.t c.span-i.result _ refl refl
+          (rw c.clamp.ensures at c.span-i.ensures.fact_2) c.span-i.ensures.fact_3 (below (goal.at.returns c).After-span-i) c.constants-six.ensures
+          c.four-xs.ensures c.four-ys.ensures;
+      fine_value = refl;
+    }

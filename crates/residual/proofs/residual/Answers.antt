@@ -10,7 +10,7 @@ use Rattle.shape.specs.Shape.{Shape}
 use Rattle.shape.specs.Rules.{handle_rules}
 use Rattle.residual.specs.Residual.{Asked, asked, Lent, lent, cells_for, asked_rules, lacks_of, lacks_room}
 use Rattle.residual.specs.Curve.{shape_of, stored_fine, residuals_on}
-use Rattle.residual.specs.Piece.{Ready, in_order}
+use Rattle.residual.specs.Piece.{in_order}
 use Rattle.residual.proofs.Rules.{passed_handles, all_long}
 use Rattle.residual.proofs.Answers.{room_passed, refused_early, refused_short, concluded}
 use Rattle.residual.proofs.residual.Goals as goal
@@ -30,7 +30,8 @@ abbrev three_for : Asked → List Dv
 three_for q = residuals_on (shape_for q) q.handles q.px q.py q.t
 
 -- past the rules 1 to 12
-passed : (c : Else-r-ne0) → Passed (asked_rules (question c.before.before.before.before.before.before.before.before.before))
+passed : (c : Else-r-ne0) → let a = c.args in
+    Passed (asked_rules (asked a.form a.handles.now a.given a.knots.now a.px a.py a.t))
 passed c = number_of (sym c.check-r.ensures) ∙ c.if-r-ne0.false
 
 facts : (c : Else-r-ne0) → let a = c.args in
@@ -40,7 +41,8 @@ facts c =
     passed_handles a.form a.handles.now a.given a.knots.now a.px a.py a.t (passed c)
 
 -- whether a slice is short
-told : (c : After-lacks) → c.lacks.result ≡ lacks_room c.args.form c.args.handles.now (slices c.before.before.before.before.before.before.before.before.before.before.before)
+told : (c : After-lacks) → let a = c.args in
+    c.lacks.result ≡ lacks_room a.form a.handles.now (lent a.work.now a.counts.now a.residuals.now a.rows.now)
 told c =
     let a = c.args in
     c.lacks.ensures
@@ -49,20 +51,14 @@ told c =
     c.cells-size.ensures.fact_1
 
 room : (c : Else-lacks) → let a = c.args in
-    (cells_for a.form a.handles.now * (length a.handles.now + 3 + 1) ≤ length a.work.now)
+    c.lacks.result ≡ lacks_room a.form a.handles.now (lent a.work.now a.counts.now a.residuals.now a.rows.now)
+    → (cells_for a.form a.handles.now * (length a.handles.now + 3 + 1) ≤ length a.work.now)
     × (cells_for a.form a.handles.now ≤ length a.counts.now)
     × (3 ≤ length a.residuals.now) × (3 * (length a.handles.now + 3) ≤ length a.rows.now)
-room c =
+room c known =
     let a = c.args in
     all_long (cells_for a.form a.handles.now) (length a.handles.now + 3) (length a.work.now) (length a.counts.now)
-    (length a.residuals.now) (length a.rows.now) (sym (told c.before) ∙ c.if-lacks.false)
-
-ready : (c : Else-lacks) → let a = c.args in
-    Ready a.form a.handles.now a.given a.knots.now (length a.handles.now + 3) a.work.now a.counts.now
-ready c =
-    let f = facts c.before.before.before in
-    let r = room c in
-    record { rules = f.1; few = omega (arith, f.0); wide = omega arith; narrow = omega (arith, f.0); bytes = r.1; doubles = r.0 }
+    (length a.residuals.now) (length a.rows.now) (sym known ∙ c.if-lacks.false)
 
 pub returns-then-r-ne0 : goal.returns-then-r-ne0
 returns-then-r-ne0 c =
@@ -82,14 +78,17 @@ returns-then-lacks c =
     (sym (told (goal.at.returns-then-lacks c).After-lacks) ∙ c.if-lacks.true) c.by.ensures
 
 pub read_curve-p-requires : goal.read_curve-p-requires
-read_curve-p-requires c = ready (goal.at.read_curve-p-requires c).Else-lacks
+read_curve-p-requires c =
+    let f = facts (goal.at.read_curve-p-requires c).Else-r-ne0 in
+    let r = room (goal.at.read_curve-p-requires c).Else-lacks (told (goal.at.read_curve-p-requires c).After-lacks) in
+    record { rules = f.1; few = omega (arith, f.0); wide = omega arith; narrow = omega (arith, f.0); bytes = r.1; doubles = r.0 }
 
 pub residuals_of-three-requires : goal.residuals_of-three-requires
 residuals_of-three-requires c = omega (arith, (facts (goal.at.residuals_of-three-requires c).Else-r-ne0).0)
 
 pub answer-requires : goal.answer-requires
 answer-requires c =
-    let r = room (goal.at.answer-requires c).Else-lacks in
+    let r = room (goal.at.answer-requires c).Else-lacks (told (goal.at.answer-requires c).After-lacks) in
     (omega (arith, (facts (goal.at.answer-requires c).Else-r-ne0).0), r.2, r.3)
 
 pub returns : goal.returns
@@ -99,5 +98,5 @@ returns c =
     let q = question (goal.at.returns c).Start in
     concluded q (slices (goal.at.returns c).Start) (stored_fine a.form q.handles) c.read_curve-p.result.fine (three_for q) (in_order c.residuals_of-three.result)
     (room_passed q (slices (goal.at.returns c).Start) (passed (goal.at.returns c).Else-r-ne0) (sym (told (goal.at.returns c).After-lacks) ∙ c.if-lacks.false)) j.verdict
-    (λ f. c.residuals_of-three.ensures (shape_for q) q.handles refl (j.read f)) c.read_curve-p.ensures.doubles.0 c.read_curve-p.ensures.doubles.1
+    (λ f. c.residuals_of-three.ensures (shape_for q) q.handles refl (j.read f)) c.read_curve-p.ensures.doubles c.read_curve-p.ensures.counts
     c.answer.ensures.leaves c.answer.ensures.leaves_2

@@ -16,8 +16,8 @@ returns c =
     let a = c.args in
     λ k q e r.
     let held = held_is q a.px a.py a.t a.h e in
-    let px = held 0 a.h a.px x.result (omega arith) (omega arith) refl x.ensures.0 in
-    let py = held 1 (a.h + 1) a.py y.result (omega arith) refl refl y.ensures.0 in
-    let pt = held 2 (a.h + 2) a.t t.result (omega arith) refl refl t.ensures.0 in
-    c.residuals_at.ensures k (subst (λ (v : Float). Read k v a.p) (sym t.ensures.1) r)
+    let px = held 0 a.h a.px x.result (omega arith) (omega arith) refl x.ensures.fact_1 in
+    let py = held 1 (a.h + 1) a.py y.result (omega arith) refl refl y.ensures.fact_1 in
+    let pt = held 2 (a.h + 2) a.t t.result (omega arith) refl refl t.ensures.fact_1 in
+    c.residuals_at.ensures k (subst (λ (v : Float). Read k v a.p) (sym t.ensures.fact_2) r)
     ∙ (λ i. three_of k (record { x = px i; y = py i }) (pt i))

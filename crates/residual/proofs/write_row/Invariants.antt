@@ -1,6 +1,6 @@
 -- `residual::write_row` meets its contract: after k turns k partials are written.
 use mathlib.Core.Path.{◌≡◌}
-use Prim.Native.Nat.{◌-◌, ◌≤◌}
+use Prim.Native.Nat.{◌≤◌}
 use lib.ListN.{length}
 use lib.Seq.{paste}
 use Rattle.meaning.specs.Search.{listed}

@@ -18,15 +18,9 @@ use Rattle.refusal.proofs.Rows.{row_passed}
 use Rattle.outcome.specs.Outcome.{Outcome, outcome, answering}
 use Rattle.outcome.proofs.Wild.{tame_long}
 use Rattle.many.specs.Many.{place_of}
-use Rattle.many.proofs.Places.{place_end}
 use Rattle.many.proofs.Asked.{Keeps, Asked, asked-first, asked-long, asked_next, asked_all}
 use Rattle.point.specs.Point.{numbers_for, point_rows}
 use Rattle.points.specs.Turn.{of_orders, each_of, put_back, Fits}
-
--- where place k ends
-pub ends : (k : ℕ) {order : ℕ} {out : List Float} {refusals : List ℕ} → Fits (k + 1) order out refusals
-    → k * numbers_for order + numbers_for order ≤ length out
-ends k {order} f = omega (arith, f.places, place_end k (k + 1) (numbers_for order) (omega arith))
 
 module _ (w k : ℕ) (out : List Float) where
   width : k * w + w - k * w ≡ w

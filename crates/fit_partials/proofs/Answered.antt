@@ -2,7 +2,7 @@
 use mathlib.Core.Path.{◌≡◌, refl, sym, ap, ◌∙◌}
 use mathlib.Core.Bool.{Bool, true, false, ◌&&◌, cond}
 use mathlib.Core.List.{List, [], ◌∷◌, ◌++◌, flatten}
-use Prim.Native.Nat.{ℕ, zero, suc, ◌+◌, ◌-◌, ◌*◌, ◌/◌, ◌≤◌, ◌<◌}
+use Prim.Native.Nat.{ℕ, zero, suc, ◌+◌, ◌-◌, ◌*◌, ◌≤◌, ◌<◌}
 use native.Mathlib.Nat.{zero-add, mul-le-mul_right}
 use native.Mathlib.Omega.{arith}
 use borrow.Author.Tests.{le-leb, leb-true}
@@ -23,11 +23,11 @@ use Rattle.evaluate.specs.Piece.{four_of}
 use Rattle.solve.specs.Rows.{flat}
 use Rattle.solve.specs.Substitution.{solved}
 use Rattle.solve.specs.Stored.{all_fine, solved_ok}
-use Rattle.solve.specs.Outcome.{Solution, column, zeros, no_solution, solution_of}
+use Rattle.solve.specs.Outcome.{Solution, zeros, no_solution, solution_of}
 use Rattle.solve.proofs.Answers.{column-length}
 use Rattle.solve_partials.specs.Outcome as Solve
 use Rattle.fit.specs.Parameters.{knot_at, fit_parameter}
-use Rattle.fit.specs.Fit.{knots_through, span_through}
+use Rattle.fit.specs.Fit.{knots_through}
 use Rattle.fit_partials.specs.Variables.{variables_of}
 use Rattle.fit_partials.specs.Stored.{Laid, Room, found_fit_rows}
 use Rattle.fit_partials.specs.Through.{knots_with, solution_with, fine_with, no_piece, piece_through}

@@ -1,6 +1,6 @@
 -- From what the code holds to the definition: the arrays are the definition's parameters and knots, and where these are finite the span that the search
 -- finds is the rules', so that the rows, the verdicts and the solution are the definition's. Assumes nothing.
-use mathlib.Core.Path.{◌≡◌, refl, sym, ap, ◌∙◌}
+use mathlib.Core.Path.{◌≡◌, sym, ap, ◌∙◌}
 use mathlib.Core.Bool.{Bool, true, false, ◌&&◌, and_assoc, cond}
 use mathlib.Core.List.{List, [], ◌∷◌, ◌++◌, flatten}
 use Prim.Native.Nat.{ℕ, ◌+◌, ◌-◌, ◌≤◌, ◌<◌}
@@ -8,10 +8,9 @@ use native.Mathlib.Omega.{arith}
 use lib.Dec.{leb, eqb, ltb}
 use borrow.Author.Tests.{ltb-true, ltb-false, le-ltb}
 use lib.ListN.{length, get_or}
-use lib.Ieee.{Float, nan, le, of_bits}
+use lib.Ieee.{Float, nan, le}
 use lib.Ieee.Scale.{finite}
 use Rattle.meaning.specs.Scalar.{Ops, plain, zero64, one64}
-use Rattle.meaning.specs.Loops.{turns}
 use Rattle.meaning.specs.Table.{at1}
 use Rattle.meaning.specs.Search.{listed, every}
 use Rattle.meaning.proofs.Tests.{by_two, same_test}
@@ -19,7 +18,7 @@ use Rattle.meaning.proofs.Every.{all, each}
 use Rattle.meaning.proofs.Searching.{seek-first}
 use Rattle.meaning.proofs.Filling.{Filled, length-listed, nth_listed}
 use Rattle.partials.specs.declared.Dv.{Dv}
-use Rattle.partials.specs.Dual.{fine_dv, cst_dv, dual}
+use Rattle.partials.specs.Dual.{fine_dv, dual}
 use Rattle.span.specs.Counting.{counted_of}
 use Rattle.knots.specs.Rules.{knot}
 use Rattle.span.specs.Span.{holds, span_of}
@@ -34,7 +33,7 @@ use Rattle.solve.proofs.Stored.{fine_append, fine-each}
 use Rattle.solve.proofs.Outcomes.{solution_fine}
 use Rattle.outcome.specs.Outcome.{some_wild}
 use Rattle.outcome.proofs.Wild.{none_wild}
-use Rattle.fit.specs.Parameters.{point_at, knot_at, knots_by, fit_parameter, fit_knots}
+use Rattle.fit.specs.Parameters.{point_at, knot_at, knots_by, fit_parameter}
 use Rattle.fit.specs.System.{origin, spread, with_sides, row_at, row_of, fit_row, fit_rows}
 use Rattle.fit.specs.Fit.{controls_for, knots_through, span_through}
 use Rattle.fit.proofs.Sums.{knot_cong}

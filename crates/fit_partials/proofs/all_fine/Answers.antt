@@ -1,6 +1,5 @@
 -- `fit_partials::all_fine` meets its contract: a turn judges one knot.
 use mathlib.Core.Path.{◌≡◌, sym, ◌∙◌}
-use Prim.Native.Nat.{◌-◌}
 use native.Mathlib.Omega.{arith}
 use lib.ListN.{length}
 use Rattle.meaning.proofs.Every.{every-none, every_next}

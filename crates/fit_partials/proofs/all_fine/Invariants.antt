@@ -1,6 +1,6 @@
 -- `fit_partials::all_fine` meets its contract: a turn judges one knot.
 use mathlib.Core.Path.{◌≡◌}
-use Prim.Native.Nat.{◌-◌, ◌≤◌}
+use Prim.Native.Nat.{◌≤◌}
 use Rattle.meaning.specs.Table.{at1}
 use Rattle.meaning.specs.Search.{every}
 use Rattle.partials.specs.Dual.{fine_dv, dual}

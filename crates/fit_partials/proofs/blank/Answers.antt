@@ -1,6 +1,6 @@
 -- `fit_partials::blank` meets its contract: a turn clears one cell.
 use mathlib.Core.Path.{◌≡◌, sym, subst}
-use Prim.Native.Nat.{◌+◌, ◌-◌}
+use Prim.Native.Nat.{◌+◌}
 use native.Mathlib.Omega.{arith}
 use Rattle.meaning.specs.Scalar.{zero64}
 use Rattle.partials.specs.Dual.{cst_dv}

@@ -1,5 +1,5 @@
 -- `fit_partials::blank` meets its contract: a turn clears one cell.
-use Prim.Native.Nat.{◌-◌, ◌≤◌}
+use Prim.Native.Nat.{◌≤◌}
 use Rattle.meaning.specs.Scalar.{zero64}
 use Rattle.partials.specs.Dual.{cst_dv}
 use Rattle.fit_partials.specs.Stored.{Laid}

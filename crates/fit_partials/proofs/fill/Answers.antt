@@ -1,6 +1,6 @@
 -- `fit_partials::fill` meets its contract: the rows below r are the system's, and the verdict is theirs.
 use mathlib.Core.Path.{◌≡◌, refl, ap, ◌∙◌}
-use Prim.Native.Nat.{◌+◌, ◌-◌, ◌*◌, ◌≤◌}
+use Prim.Native.Nat.{◌+◌, ◌*◌, ◌≤◌}
 use native.Mathlib.Omega.{arith}
 use Rattle.meaning.specs.Table.{at1}
 use Rattle.meaning.proofs.Every.{every-none, every_next}
@@ -22,7 +22,7 @@ pub bounds-p-station : goal.bounds-p-station
 bounds-p-station c = omega (arith, c.station.ensures.1, c.requires.fact_1.1)
 
 high : (c : After-span-i) → c.span-i.result ≤ c.args.n + 1
-high c = let p = c.requires.fact_1 in omega (arith, c.span-i.ensures.fact_2.1.1.1 (omega (arith, p.0)))
+high c = let p = c.requires.fact_1 in omega (arith, c.span-i.ensures.fact_5 (omega (arith, p.0)))
 
 inside : (c : After-span-i) → c.span-i.result ≤ 13
 inside c = omega (arith, high c, c.requires.fact_1.1)
@@ -54,9 +54,9 @@ system_row-requires c =
     let t = c.loop-r-test.true in
     let s4 = a.n + 2 + 2 in
     let e = row_le l.r (a.n + 2) s4 t in
-    let room = room_part a.c 0 ((a.n + 2) * s4) (l.r * s4) s4 p.3 (omega (arith, e)) l.inv.0.doubles l.inv.0.bytes in
+    let room = room_part a.c 0 ((a.n + 2) * s4) (l.r * s4) s4 p.3 (omega (arith, e)) l.invariant.0.doubles l.invariant.0.bytes in
     let station = c.station.ensures in record {
-      fact_1 = (p.0, p.1, t, p.2, ready.points, c.span-i.ensures.fact_2.1.0, omega (arith, high (goal.at.system_row-requires c).After-span-i), room);
+      fact_1 = (p.0, p.1, t, p.2, ready.points, c.span-i.ensures.fact_3, omega (arith, high (goal.at.system_row-requires c).After-span-i), room);
       fact_2 = (window_tidy a.c a.k c.span-i.result ready.knots, ready.parameters c.station.result station.1);
     }
 
@@ -67,10 +67,10 @@ loop-r-preserved c =
     let t = c.loop-r-test.true in
     let station = c.station.ensures in
     let span = c.span-i.ensures in
-    let row = row-found a.c a.n l.r a.k a.u.now a.p a.q.now _ t span.0 span.1.1.0 span.1.1.1.0 refl
+    let row = row-found a.c a.n l.r a.k a.u.now a.p a.q.now _ t span.fact_1 span.fact_3 span.fact_4 refl
     (ap (at1 dual a.p) station.0) c.requires.fact_2 c.system_row.ensures in (
-      laid-row a.c (a.n + 2) (a.n + 2 + 2) l.r _ (found_shaped _ _ _ _ _) t l.inv.0 row.0,
-      every_next _ l.r l.inv.1 row.1 c.both-fine.ensures,
+      laid-row a.c (a.n + 2) (a.n + 2 + 2) l.r _ (found_shaped _ _ _ _ _) t l.invariant.0 row.0,
+      every_next _ l.r l.invariant.1 row.1 c.both-fine.ensures,
       omega arith,
     )
 

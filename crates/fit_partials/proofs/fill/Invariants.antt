@@ -1,7 +1,7 @@
 -- `fit_partials::fill` meets its contract: the rows below r are the system's, and the verdict is theirs.
 use mathlib.Core.Path.{◌≡◌}
 use mathlib.Core.List.{[]}
-use Prim.Native.Nat.{◌+◌, ◌-◌, ◌*◌, ◌≤◌}
+use Prim.Native.Nat.{◌+◌, ◌*◌, ◌≤◌}
 use Rattle.meaning.specs.Table.{at1}
 use Rattle.meaning.specs.Search.{every}
 use Rattle.partials.specs.Dual.{dual}

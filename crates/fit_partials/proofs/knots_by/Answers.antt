@@ -1,7 +1,6 @@
 -- `fit_partials::knots_by` meets its contract: a turn stores one knot.
 use native.Mathlib.Omega.{arith}
 use mathlib.Core.Path.{refl}
-use Prim.Native.Nat.{◌-◌}
 use Rattle.meaning.proofs.Filling.{empty, filled, full}
 use Rattle.fit_partials.proofs.knots_by.Goals as goal
 

@@ -1,5 +1,4 @@
 -- `fit_partials::knots_by` meets its contract: a turn stores one knot.
-use Prim.Native.Nat.{◌-◌}
 use Rattle.meaning.specs.Table.{at1}
 use Rattle.meaning.proofs.Filling.{Filled}
 use Rattle.partials.specs.Dual.{dual}

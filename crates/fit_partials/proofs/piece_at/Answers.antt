@@ -9,13 +9,11 @@ use Rattle.fit_partials.proofs.piece_at.Goals as goal
 pub returns-then-not-has_room : goal.returns-then-not-has_room
 returns-then-not-has_room c =
     let a = c.args in
-    let e = sym c.has_room.ensures ∙ not-true c.has_room.result (ap not c.if-not-has_room.true) in (
-      c.no_piece.ensures ∙ unable_piece a.q.now a.c a.t a.w.now a.ns.now e,
-      (
-        unable_doubles a.q.now a.c a.t a.w.now a.ns.now e,
-        unable_counts a.q.now a.c a.t a.w.now a.ns.now e,
-      ),
-    )
+    let e = sym c.has_room.ensures ∙ not-true c.has_room.result (ap not c.if-not-has_room.true) in record {
+      answer = c.no_piece.ensures ∙ unable_piece a.q.now a.c a.t a.w.now a.ns.now e;
+      doubles = unable_doubles a.q.now a.c a.t a.w.now a.ns.now e;
+      counts = unable_counts a.q.now a.c a.t a.w.now a.ns.now e;
+    }
 
 pub piece_through-requires : goal.piece_through-requires
 piece_through-requires c =
@@ -26,10 +24,8 @@ pub returns : goal.returns
 returns c =
     let a = c.args in
     let e = sym c.has_room.ensures ∙ not-false c.has_room.result (ap not c.if-not-has_room.false) in
-    let r = c.piece_through.ensures in (
-      r.0 ∙ able_piece a.q.now a.c a.t a.w.now a.ns.now e,
-      (
-        r.1.0 ∙ able-doubles a.q.now a.c a.t a.w.now a.ns.now e,
-        r.1.1 ∙ able-counts a.q.now a.c a.t a.w.now a.ns.now e,
-      ),
-    )
+    let r = c.piece_through.ensures in record {
+      answer = r.answer ∙ able_piece a.q.now a.c a.t a.w.now a.ns.now e;
+      doubles = r.doubles ∙ able-doubles a.q.now a.c a.t a.w.now a.ns.now e;
+      counts = r.counts ∙ able-counts a.q.now a.c a.t a.w.now a.ns.now e;
+    }

@@ -17,7 +17,7 @@ fill-stored-requires c =
 
 pub piece_with-requires : goal.piece_with-requires
 piece_with-requires c =
-    (c.span-i.ensures.fact_2.1.0, omega (arith, c.span-i.ensures.fact_2.1.1.1 (omega (arith, c.requires.0)), c.requires.1))
+    (c.span-i.ensures.fact_3, omega (arith, c.span-i.ensures.fact_5 (omega (arith, c.requires.0)), c.requires.1))
 
 pub returns : goal.returns
 returns c =
@@ -25,16 +25,14 @@ returns c =
     let a = c.args in
     let r = c.requires in
     let laid = c.fill-stored.ensures.fact_1 in
-    let call = c.solve-s.ensures in (
-      c.piece_with.ensures
+    let call = c.solve-s.ensures in record {
+      answer = c.piece_with.ensures
           ∙ piece_is a.q.now r.0 r.1 _ _ _ c.fit_parameters-p.ensures c.knots_by-k.ensures c.values-u.ensures a.c _ _ _ _ r.3 laid
-          a.t _ (Solved.view c.solve-s.result) _ _ c.span-i.ensures.fact_1 call.0 c.fill-stored.ensures.fact_2
-          (c.both-fine.ensures ∙ (λ j. tame j && c.both.ensures j)),
-      (
-        call.1.0
-            ∙ doubles-after a.q.now r.0 r.1 _ _ _ c.fit_parameters-p.ensures c.knots_by-k.ensures c.values-u.ensures
-            a.c _ _ _ _ r.3 laid,
-        call.1.1
-            ∙ counts-after a.q.now r.0 r.1 _ _ _ c.fit_parameters-p.ensures c.knots_by-k.ensures c.values-u.ensures a.c _ _ _ _ r.3 laid,
-      ),
-    )
+          a.t _ (Solved.view c.solve-s.result) _ _ c.span-i.ensures.fact_1 call.answers c.fill-stored.ensures.fact_2
+          (c.both-fine.ensures ∙ (λ j. tame j && c.both.ensures j));
+      doubles = call.doubles
+          ∙ doubles-after a.q.now r.0 r.1 _ _ _ c.fit_parameters-p.ensures c.knots_by-k.ensures c.values-u.ensures
+          a.c _ _ _ _ r.3 laid;
+      counts = call.counts
+          ∙ counts-after a.q.now r.0 r.1 _ _ _ c.fit_parameters-p.ensures c.knots_by-k.ensures c.values-u.ensures a.c _ _ _ _ r.3 laid;
+    }

@@ -1,6 +1,6 @@
 -- `fit_partials::store_four` meets its contract: a turn stores one number and judges it.
 use mathlib.Core.Path.{◌≡◌, ap}
-use Prim.Native.Nat.{◌+◌, ◌-◌}
+use Prim.Native.Nat.{◌+◌}
 use native.Mathlib.Omega.{arith}
 use Rattle.meaning.specs.Table.{at1}
 use Rattle.partials.specs.Dual.{dual}

@@ -1,5 +1,5 @@
 -- `fit_partials::store_four` meets its contract: a turn stores one number and judges it.
-use Prim.Native.Nat.{◌-◌, ◌≤◌}
+use Prim.Native.Nat.{◌≤◌}
 use Rattle.meaning.specs.Table.{at1}
 use Rattle.partials.specs.Dual.{dual}
 use Rattle.fit_partials.specs.Stored.{Stored}

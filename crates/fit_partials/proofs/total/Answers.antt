@@ -1,6 +1,5 @@
 -- `fit_partials::total` meets its contract: a turn adds one step.
 use native.Mathlib.Omega.{arith}
-use Prim.Native.Nat.{◌-◌}
 use Rattle.meaning.proofs.For.{first, next, last}
 use Rattle.fit.specs.Parameters.{sum_of}
 use Rattle.fit_partials.proofs.total.Goals as goal

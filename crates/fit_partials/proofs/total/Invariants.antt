@@ -1,5 +1,4 @@
 -- `fit_partials::total` meets its contract: a turn adds one step.
-use Prim.Native.Nat.{◌-◌}
 use Rattle.meaning.specs.Table.{at1}
 use Rattle.meaning.proofs.For.{At}
 use Rattle.partials.specs.Dual.{dual}

@@ -1,7 +1,6 @@
 -- `fit_partials::values` meets its contract: a turn stores one value.
 use native.Mathlib.Omega.{arith}
 use mathlib.Core.Path.{refl}
-use Prim.Native.Nat.{◌-◌}
 use Rattle.meaning.proofs.Filling.{empty, filled, full}
 use Rattle.fit_partials.proofs.values.Goals as goal
 

@@ -1,5 +1,4 @@
 -- `fit_partials::values` meets its contract: a turn stores one value.
-use Prim.Native.Nat.{◌-◌}
 use lib.Ieee.{nan}
 use Rattle.meaning.specs.Table.{at1}
 use Rattle.meaning.proofs.Filling.{Filled}

@@ -7,5 +7,7 @@ use Rattle.threshdune.proofs.threshdune_domain.Goals as goal
 pub returns : goal.returns
 returns c =
     let a = c.args in
-    let h = c.hand_interval-r.ensures in
-    (h.0 ∙ ap (λ (v : Values). handed v 0 a.from.now) c.domain_slices.ensures, h.1 ∙ ap (λ (v : Values). handed v 1 a.to.now) c.domain_slices.ensures)
+    let h = c.hand_interval-r.ensures in record {
+      from_after = h.from_after ∙ ap (λ (v : Values). handed v 0 a.from.now) c.domain_slices.ensures;
+      to_after = h.to_after ∙ ap (λ (v : Values). handed v 1 a.to.now) c.domain_slices.ensures;
+    }

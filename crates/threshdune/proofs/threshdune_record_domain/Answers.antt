@@ -11,5 +11,7 @@ pub returns : goal.returns
 returns c =
     let a = c.args in
     let h = c.hand_interval-r.ensures in
-    let same = c.domain.ensures ∙ ap (λ (m : Curve). domain_answer (by_record m)) c.read_curve-c.ensures in
-    (h.0 ∙ ap (λ (v : Values). handed v 0 a.from.now) same, h.1 ∙ ap (λ (v : Values). handed v 1 a.to.now) same)
+    let same = c.domain.ensures ∙ ap (λ (m : Curve). domain_answer (by_record m)) c.read_curve-c.ensures in record {
+      from_after = h.from_after ∙ ap (λ (v : Values). handed v 0 a.from.now) same;
+      to_after = h.to_after ∙ ap (λ (v : Values). handed v 1 a.to.now) same;
+    }

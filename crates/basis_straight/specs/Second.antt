@@ -1,5 +1,5 @@
 -- Inner: the second derivatives of the four functions of a span, written out over the entries of A2.3's table that they read. The law
--- `second-are` of proofs/Written.antt says that they are A2.3's.
+-- `second_are` of proofs/Written.antt says that they are A2.3's.
 use Rattle.std.specs.Prelude.{List, Float}
 use Rattle.std.specs.Float.{binary64}
 use Rattle.std.specs.Float.Ieee.{of_bits}

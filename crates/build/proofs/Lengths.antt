@@ -46,7 +46,7 @@ module _ (m : ℕ) (few : m ≤ 66) (xs ys : List Float) where
       ap (λ (n : ℕ). length_of plain (every_other (in_turn m xs ys) n 0) (every_other (in_turn m xs ys) n 1) n) counted
       ∙ same_length _ _ m (λ i h. let x = x-at i h in let y = y-at i h in λ k. record { x = x k; y = y k })
 
--- whatever the form: `in_turn` is what `builtInto` writes for the control points
+-- whatever the form: `in_turn` is what `built_into` writes for the control points
 pub written-length : (form : Form) (coords : List Float) (given : Bool) (ks us : List Float) → controls_in form coords ≤ 66 → let c = curve_of form coords given ks in
     length_in (slice_shape (in_turn (controls_in form coords) c.xs c.ys) us) ≡ c.length
 unfolding curve_through

@@ -1,5 +1,5 @@
 -- The distance of two points. docs/RULES.md, "Distance", decides, in place of the original's `hypot`. Whoever asks for a distance asks for it by
--- this name. Sizes are counted in units of 2 ^ -1074, of which every finite double is a whole number (`inUnits`).
+-- this name. Sizes are counted in units of 2 ^ -1074, of which every finite double is a whole number (`in_units`).
 use Rattle.std.specs.Prelude.{false, ◌&&◌, cond, ℕ, ◌-◌, ◌*◌, ◌^◌, max, Float}
 use Rattle.std.specs.Float.{binary64}
 use Rattle.std.specs.Float.Ieee.{size, round}

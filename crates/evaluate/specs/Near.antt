@@ -1,4 +1,4 @@
--- Inner: the point alone, by an index that is tried for its span. For knots that do not fall it is the point of `ordersOf`, whatever the index, which
+-- Inner: the point alone, by an index that is tried for its span. For knots that do not fall it is the point of `orders_of`, whatever the index, which
 -- `proofs/Near.antt` shows.
 use Rattle.std.specs.Prelude.{cond, List, ℕ, Float}
 use Rattle.meaning.specs.Scalar.{plain}

@@ -1,5 +1,5 @@
--- Demand 3 (docs/RULES.md), for an accepted curve with knots of at most 2 ^ 20 in size and a parameter in its domain. `hull-point`: what is answered for the point
--- lies, where it is finite, in the hull of its span's four control points. `never-refused`: where the span is at least 2 ^ -20 long and the
+-- Demand 3 (docs/RULES.md), for an accepted curve with knots of at most 2 ^ 20 in size and a parameter in its domain. `hull_point`: what is answered for the point
+-- lies, where it is finite, in the hull of its span's four control points. `never_refused`: where the span is at least 2 ^ -20 long and the
 -- coordinates are at most 2 ^ 500 in size, it is finite. Assumes nothing.
 use mathlib.Core.Path.{◌≡◌, refl, sym, ap, ◌∙◌, subst}
 use mathlib.Core.Bool.{true, false, not}

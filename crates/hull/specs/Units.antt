@@ -1,5 +1,5 @@
 -- Finite doubles in whole numbers. A finite double is a whole number of 2 ^ -1074, the smallest one, with a sign; that is a unit here, and
--- `inUnits` counts them. A width of 2 ^ -47 of such a number is a whole multiple of 2 ^ -1121, in which demand 3 (docs/RULES.md) compares. Of an infinity and of
+-- `in_units` counts them. A width of 2 ^ -47 of such a number is a whole multiple of 2 ^ -1121, in which demand 3 (docs/RULES.md) compares. Of an infinity and of
 -- a NaN nothing here speaks: every value that demand 3 measures is finite.
 use Rattle.std.specs.Prelude.{Bool, false, cond, ℕ, ◌+◌, ◌-◌, ◌*◌, ◌^◌, ◌≤◌, Float}
 use Rattle.std.specs.Float.{nan, inf, fin}

@@ -1,5 +1,5 @@
 -- The root of a double. docs/RULES.md, "Root", decides: +0.0 at or below 0, the double nearest to the exact root of a positive number,
--- and an infinity or a NaN as it is. `rootOf` says which double that is by computing it; `Nearest` says it by what every other double is not.
+-- and an infinity or a NaN as it is. `root_of` says which double that is by computing it; `Nearest` says it by what every other double is not.
 -- That the two agree, and that `Nearest` leaves no choice, is proved in the crate `root`.
 use Rattle.std.specs.Prelude.{ℕ, zero, suc, ◌+◌, ◌*◌, ◌/◌, ◌^◌, ◌<◌, Bool, false, true, not, cond, pos, T, leb, eqb, Float}
 use Rattle.std.specs.Float.{nan, inf, fin, binary64}

@@ -1,4 +1,4 @@
--- What the tests of `root` tell of x: which x is positive and finite, and that the others get what `rootOf` says. Assumes nothing.
+-- What the tests of `root` tell of x: which x is positive and finite, and that the others get what `root_of` says. Assumes nothing.
 use mathlib.Core.Path.{◌≡◌, refl, sym, ap, ◌∙◌, subst}
 use mathlib.Core.Bool.{true, false}
 use mathlib.Core.Logic.{inl, inr}

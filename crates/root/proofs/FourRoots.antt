@@ -1,4 +1,4 @@
--- `wholeRoot` is the whole part of a root, and so `fourRoots n` stands to twice a whole number as four times the root of n does, and grows
+-- `whole_root` is the whole part of a root, and so `four_roots n` stands to twice a whole number as four times the root of n does, and grows
 -- with n. Assumes nothing.
 use mathlib.Core.Path.{◌≡◌, sym, subst}
 use mathlib.Core.Bool.{Bool, true, false, not, cond}
@@ -50,7 +50,7 @@ nearest_whole n p = go (whole_root n) (whole_root_is n) (dec_le n (whole_root n 
     go s w (yes l) = (s, down s w.0 l)
     go s w (no f) = (s + 1, up s w.1 (lt_of_not-le f))
 
--- ---- `fourRoots n` beside twice a whole number
+-- ---- `four_roots n` beside twice a whole number
 
 module _ (n h : ℕ) where
   whole : WholePart (4 * n) (whole_root (4 * n))
@@ -76,7 +76,7 @@ module _ (n h : ℕ) where
       go true e = omega (arith, root_lt h (whole_root (4 * n)) (subst (λ (x : ℕ). h * h < x) (sym (e tt)) k))
       go false e = omega (arith, root_le h (whole_root (4 * n)) (lt_of_le_of_lt (le_of_lt k) whole.1))
 
--- It is twice j where the square of j is 4 * n, and otherwise one more. What is larger reaches the one by `at-least` and the other by `more`.
+-- It is twice j where the square of j is 4 * n, and otherwise one more. What is larger reaches the one by `at_least_lem` and the other by `more`.
 pub grows : (n p : ℕ) → n ≤ p → four_roots n ≤ four_roots p
 unfolding four_roots
 grows n p h = go (eqb (j * j) (4 * n)) (eqb→eq (j * j) (4 * n)) (differ (j * j) (4 * n))

@@ -1,4 +1,4 @@
--- `rootOf` is the double nearest to the exact root (`root-nearest`), and no other double is (`nearest-unique`). Assumes nothing.
+-- `root_of` is the double nearest to the exact root (`root_nearest`), and no other double is (`nearest_unique`). Assumes nothing.
 use mathlib.Core.Path.{◌≡◌, refl, sym, subst}
 use mathlib.Core.Bool.{true, false}
 use Prim.Native.Nat.{ℕ, zero, suc, ◌+◌, ◌*◌, ◌/◌, ◌^◌, ◌≤◌, ◌<◌}
@@ -49,7 +49,7 @@ exact_nearest x r f c e =
     over : (y r n : ℕ) → r * r ≡ n → r < y → 4 * n < (y + r) * (y + r)
     over y r n e l = omega (arith, sq_lt (r + r) (y + r) (omega arith))
 
--- ---- `rootOf` is nearest
+-- ---- `root_of` is nearest
 
 module _ (b m a q : ℕ) (finite : b < 0x7ff0_0000_0000_0000) (scales : Scales b m a) (near : NearestWhole (radicand m a) q) where
   digits_nearest : Nearest (of_bits binary64 b) (root_of (of_bits binary64 b))

@@ -1,4 +1,4 @@
--- The pattern b of a positive double stands for `patternUnits b` units, whose significand has at most 53 digits. Assumes nothing.
+-- The pattern b of a positive double stands for `pattern_units b` units, whose significand has at most 53 digits. Assumes nothing.
 use mathlib.Core.Path.{◌≡◌, refl, sym, ap, ◌∙◌, subst}
 use mathlib.Core.Bool.{false, cond}
 use Prim.Native.Nat.{ℕ, suc, ◌+◌, ◌-◌, ◌*◌, ◌/◌, ◌%◌, ◌^◌, ◌≤◌, ◌<◌}

@@ -1,4 +1,4 @@
--- From the digits of a root to the double: where q is nearest to the root, the pattern that `root_bits` writes is that of `rootOf`.
+-- From the digits of a root to the double: where q is nearest to the root, the pattern that `root_bits` writes is that of `root_of`.
 -- Assumes nothing.
 use mathlib.Core.Path.{◌≡◌, refl, sym, ap, ◌∙◌, subst}
 use mathlib.Core.Bool.{true, false}
@@ -21,7 +21,7 @@ use Rattle.root.proofs.Scaling.{Scales, Moved, moved, split}
 use Rattle.root.proofs.Doubles.{units_of, same_value}
 use Rattle.root.proofs.Range.{rounded, root-fits}
 
--- ---- `rootOf` of a positive double
+-- ---- `root_of` of a positive double
 
 no_units : (u d v : ℕ) → 0 < d → 0 < v → 0 * u * 2 ^ 1074 ≡ v * d → ⊥
 no_units u d v p q e = lt_irrefl 0 (subst (λ (n : ℕ). 0 < n) (sym e ∙ ap (λ (n : ℕ). n * 2 ^ 1074) (zero-mul u) ∙ zero-mul (2 ^ 1074)) (mul-pos q p))

@@ -1,5 +1,5 @@
 -- Inner: what a pattern stands for, which the private functions of this crate say in their contracts: they work on patterns and not on doubles.
--- No caller needs it: `root`'s contract is `rootOf` of `meaning` alone.
+-- No caller needs it: `root`'s contract is `root_of` of `meaning` alone.
 use Rattle.std.specs.Prelude.{ℕ, ◌+◌, ◌-◌, ◌*◌, ◌/◌, ◌%◌, ◌^◌, cond, ltb}
 
 -- How many units of 2 ^ -1074 the positive double with the pattern b has: b itself where the exponent's field is 0, and otherwise the

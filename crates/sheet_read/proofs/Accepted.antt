@@ -1,5 +1,5 @@
 -- Every text that `Written` gives has the form and says what was written, which is the converse of `Canonical`: so the texts that have the form are the written
--- ones, one for each content within the limits (`accepted`, `read_back`, `exactly`, `one-content`). Assumes nothing.
+-- ones, one for each content within the limits (`accepted`, `read_back`, `exactly`, `one_content`). Assumes nothing.
 use mathlib.Core.Path.{◌≡◌, refl, sym, ap, ◌∙◌, subst}
 use mathlib.Core.Bool.{true, false}
 use mathlib.Core.List.{List, [], ◌++◌, map, append_assoc, append-nil}

@@ -49,7 +49,7 @@ form_text Fit = text "fit\n"
 abbrev pub form_stands : List ℕ → Form → Bool
 form_stands s form = word_stands s (form_text form) 0
 
--- the form that the first line says; `Control` where it says none, and then `formStands` is false of it
+-- the form that the first line says; `Control` where it says none, and then `form_stands` is false of it
 abbrev pub form_of : List ℕ → Form
 form_of s = cond (form_stands s Fit) Fit Control
 

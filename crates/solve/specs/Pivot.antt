@@ -1,5 +1,5 @@
 -- The pivot of a column in the words of docs/RULES.md, "Solve", over any scalar: from the diagonal down the entry of greatest size, in IEEE 754's
--- totalOrder, and of equals the last. One row has it, and no other: `pivot-is` and `one-pivot` in `solve/proofs/Pivots`.
+-- totalOrder, and of equals the last. One row has it, and no other: `pivot_is` and `one_pivot` in `solve/proofs/Pivots`.
 use Rattle.std.specs.Prelude.{Bool, ◌||◌, cond, List, ℕ, leb}
 use Rattle.std.proofs.Math.Dec.{ltb}
 use Rattle.meaning.specs.Scalar.{Ops}

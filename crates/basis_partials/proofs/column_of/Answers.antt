@@ -1,4 +1,4 @@
--- `basis_partials::column_of` meets its contract: each turn of the loop is `columnTurn`.
+-- `basis_partials::column_of` meets its contract: each turn of the loop is `column_turn`.
 use native.Mathlib.Omega.{arith}
 use mathlib.Core.Path.{refl}
 use Prim.Native.Nat.{◌-◌}

@@ -1,4 +1,4 @@
--- `basis_partials::column_of` meets its contract: each turn of the loop is `columnTurn`.
+-- `basis_partials::column_of` meets its contract: each turn of the loop is `column_turn`.
 use Prim.Native.Nat.{◌-◌}
 use Rattle.partials.specs.Dual.{dual}
 use Rattle.meaning.proofs.For.{At}

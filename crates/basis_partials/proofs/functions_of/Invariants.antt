@@ -1,4 +1,4 @@
--- `basis_partials::functions_of` meets its contract: each turn of the loop is `functionOf`.
+-- `basis_partials::functions_of` meets its contract: each turn of the loop is `function_of`.
 use Prim.Native.Nat.{◌-◌}
 use Rattle.partials.specs.Dual.{dual}
 use Rattle.meaning.proofs.For.{At}

@@ -1,4 +1,4 @@
--- `basis_partials::mid_coefs` meets its contract: each turn of the loop is `midTurn`, at a column that is in the table.
+-- `basis_partials::mid_coefs` meets its contract: each turn of the loop is `mid_turn`, at a column that is in the table.
 use Prim.Native.Nat.{◌-◌}
 use Rattle.partials.specs.Dual.{dual}
 use Rattle.meaning.proofs.For.{At}

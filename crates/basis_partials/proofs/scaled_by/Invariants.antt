@@ -1,4 +1,4 @@
--- `basis_partials::scaled_by` meets its contract: each turn of the loop is `scaleTurn`.
+-- `basis_partials::scaled_by` meets its contract: each turn of the loop is `scale_turn`.
 use mathlib.Core.Path.{◌≡◌}
 use Prim.Native.Nat.{◌+◌, ◌-◌}
 use Rattle.partials.specs.Dual.{dual}

@@ -1,4 +1,4 @@
--- `basis_partials::triangle_of` meets its contract: each turn of the loop is `sidesTurn`.
+-- `basis_partials::triangle_of` meets its contract: each turn of the loop is `sides_turn`.
 use native.Mathlib.Omega.{arith}
 use Prim.Native.Nat.{◌-◌}
 use Rattle.partials.specs.Dual.{dual}

@@ -1,4 +1,4 @@
--- `basis_partials::triangle_of` meets its contract: each turn of the loop is `sidesTurn`.
+-- `basis_partials::triangle_of` meets its contract: each turn of the loop is `sides_turn`.
 use Prim.Native.Nat.{◌-◌}
 use Rattle.partials.specs.Dual.{dual}
 use Rattle.meaning.proofs.For.{At}

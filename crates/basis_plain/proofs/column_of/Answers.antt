@@ -1,4 +1,4 @@
--- `basis_plain::column_of` meets its contract: each turn of the loop is `columnTurn`.
+-- `basis_plain::column_of` meets its contract: each turn of the loop is `column_turn`.
 use native.Mathlib.Omega.{arith}
 use Prim.Native.Nat.{◌-◌}
 use Rattle.meaning.specs.Scalar.{plain}

@@ -1,4 +1,4 @@
--- `basis_plain::function_of` meets its contract: each turn of the loop is `orderTurn`.
+-- `basis_plain::function_of` meets its contract: each turn of the loop is `order_turn`.
 use native.Mathlib.Omega.{arith}
 use mathlib.Core.Path.{refl, ap}
 use Prim.Native.Nat.{◌-◌}

@@ -1,4 +1,4 @@
--- `basis_plain::function_of` meets its contract: each turn of the loop is `orderTurn`.
+-- `basis_plain::function_of` meets its contract: each turn of the loop is `order_turn`.
 use mathlib.Core.Path.{◌≡◌}
 use Prim.Native.Nat.{◌+◌, ◌-◌}
 use Rattle.meaning.specs.Scalar.{plain}

@@ -1,4 +1,4 @@
--- `basis_plain::functions_of` meets its contract: each turn of the loop is `functionOf`.
+-- `basis_plain::functions_of` meets its contract: each turn of the loop is `function_of`.
 use native.Mathlib.Omega.{arith}
 use Prim.Native.Nat.{◌-◌}
 use Rattle.meaning.proofs.For.{first, next, last}

@@ -1,4 +1,4 @@
--- `basis_plain::functions_of` meets its contract: each turn of the loop is `functionOf`.
+-- `basis_plain::functions_of` meets its contract: each turn of the loop is `function_of`.
 use Prim.Native.Nat.{◌-◌}
 use Rattle.meaning.specs.Scalar.{plain}
 use Rattle.meaning.proofs.For.{At}

@@ -1,4 +1,4 @@
--- `basis_plain::scaled_by` meets its contract: each turn of the loop is `scaleTurn`.
+-- `basis_plain::scaled_by` meets its contract: each turn of the loop is `scale_turn`.
 use mathlib.Core.Path.{refl, ap}
 use Prim.Native.Nat.{◌-◌}
 use lib.Ieee.{Float}

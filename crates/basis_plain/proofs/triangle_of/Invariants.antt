@@ -1,4 +1,4 @@
--- `basis_plain::triangle_of` meets its contract: each turn of the loop is `sidesTurn`.
+-- `basis_plain::triangle_of` meets its contract: each turn of the loop is `sides_turn`.
 use Prim.Native.Nat.{◌-◌}
 use Rattle.meaning.specs.Scalar.{plain}
 use Rattle.meaning.proofs.For.{At}

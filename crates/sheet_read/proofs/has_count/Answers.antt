@@ -1,4 +1,4 @@
--- `sheet_read::has_count` meets its contract: the tests are those of `countStands`, in its order.
+-- `sheet_read::has_count` meets its contract: the tests are those of `count_stands`, in its order.
 use native.Mathlib.Omega.{arith}
 use borrow.Author.Tests.{not-true, not-false}
 use Rattle.sheet_read.proofs.Numerals.{few_digits, no_count, led_by_zero, too_many_lem, line_ends}

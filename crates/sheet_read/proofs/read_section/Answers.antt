@@ -1,4 +1,4 @@
--- `sheet_read::read_section` meets its contract: the tests are those of `sectionAt`, in its order.
+-- `sheet_read::read_section` meets its contract: the tests are those of `section_at`, in its order.
 use mathlib.Core.Path.{sym, ◌∙◌}
 use Prim.Native.Nat.{◌*◌, ◌≤◌}
 use native.Mathlib.Nat.{le_trans}

@@ -1,11 +1,10 @@
 -- `samples::answer_samples` meets its contract: the samples are made in a room of their own and delivered, and then they are counted.
-use mathlib.Core.Path.{◌≡◌, sym, ap, ◌∙◌}
+use mathlib.Core.Path.{◌≡◌, sym, ◌∙◌}
 use mathlib.Core.List.{List, [], ◌∷◌, ◌++◌}
 use native.Mathlib.Nat.{suc-ne-zero}
-use native.Mathlib.Omega.{arith}
 use borrow.Author.Tests.{lt-ltb, le-ltb}
 use lib.Dec.{ltb}
-use lib.ListN.{length, drop, replicate, length-append, length-drop, length-replicate}
+use lib.ListN.{length, drop, replicate}
 use lib.Ieee.{Float}
 use Rattle.meaning.specs.Scalar.{zero64}
 use Rattle.refusal.specs.Refusals.{row}
@@ -41,19 +40,6 @@ answered : (c : After-walk-k) {o : Outcome} → let out = c.args.out.now in let 
     → o ≡ answering (row 13 (ltb 16 c.args.per) ∷ delivery_rules (samples c) (length (samples c)) out) (samples c) (length (samples c)) out
 answered c a =
     leaves (pass 13 (le-ltb _ _ c.if-per-gt16.false) (delivered_front (room_of c) (samples c) _ c.args.out.now (room-is c) (count-is c) a))
-
-pub slice_bounds-deliver-end : goal.slice_bounds-deliver-end
-slice_bounds-deliver-end c =
-    let zeros = replicate 1105 zero64 in
-    omega (
-      arith,
-      ap length (room-is (goal.at.slice_bounds-deliver-end c).After-walk-k),
-      length-append (samples (goal.at.slice_bounds-deliver-end c).After-walk-k) (drop (length (samples (goal.at.slice_bounds-deliver-end c).After-walk-k)) zeros),
-      length-drop (length (samples (goal.at.slice_bounds-deliver-end c).After-walk-k)) zeros,
-      length-replicate 1105 zero64,
-      count-is (goal.at.slice_bounds-deliver-end c).After-walk-k,
-      c.walk-k.ensures.fact_2,
-    )
 
 pub returns-then-r-eq0 : goal.returns-then-r-eq0
 unfolding samples_answer

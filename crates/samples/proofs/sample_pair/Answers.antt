@@ -1,8 +1,8 @@
 -- `samples::sample_pair` meets its contract: a turn puts in one sample.
-use mathlib.Core.Path.{◌≡◌, sym}
+use mathlib.Core.Path.{sym}
 use native.Mathlib.Omega.{arith}
 use native.Mathlib.Numerals.{add-one}
-use lib.Seq.{paste-zero, paste-suc}
+use lib.Seq.{paste-suc}
 use lib.Ieee.{nan}
 use Rattle.meaning.specs.Search.{listed}
 use Rattle.meaning.proofs.Filling.{length-listed}
@@ -10,11 +10,6 @@ use Rattle.samples.specs.Samples.{sample_at}
 use Rattle.samples.proofs.Sampled.{sample_is}
 use borrow.Author.Rules.{rules}
 use Rattle.samples.proofs.sample_pair.Goals as goal
-
-pub loop-s-init : goal.loop-s-init
-loop-s-init c =
-    let a = c.args in
-    (omega arith, omega arith, paste-zero a.room.now a.at (listed 0 a.per (sample_at a.w0 a.w1 a.per)))
 
 pub loop-s-preserved : goal.loop-s-preserved
 loop-s-preserved c =
@@ -26,6 +21,3 @@ loop-s-preserved c =
       rw (c.sample_at.ensures, l.invariant.2, add-one l.s, sym (sample_is a.w0 a.w1 a.per l.s (omega arith)))
           (paste-suc a.room.now a.at p l.s nan (omega arith) (omega (arith, length-listed 0 a.per (sample_at a.w0 a.w1 a.per)))),
     )
-
-pub returns : goal.returns
-returns c = let e : c.loop-s.s ≡ c.args.per = omega arith in rw e at c.loop-s.invariant.2

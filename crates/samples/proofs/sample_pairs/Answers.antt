@@ -1,6 +1,6 @@
 -- `samples::sample_pairs` meets its contract: a turn adds the samples of one pair.
-use mathlib.Core.Path.{◌≡◌, refl, sym, ap, ◌∙◌}
-use Prim.Native.Nat.{◌+◌, ◌-◌}
+use mathlib.Core.Path.{refl, ap, ◌∙◌}
+use Prim.Native.Nat.{◌+◌}
 use native.Mathlib.Omega.{arith}
 use native.Mathlib.Nat.{le_refl}
 use lib.ListN.{length}
@@ -25,13 +25,3 @@ loop-i-preserved c =
       omega arith,
       sampled_next l.invariant.2 (omega arith) (ap length r.ensures.fact_2 ∙ length-paste l.room l.at p (length p) (omega (arith, l.invariant.2.few, l.invariant.2.long)) (le_refl (length p))) r.ensures.fact_1 r.ensures.fact_2,
     )
-
-pub returns : goal.returns
-returns c =
-    let l = c.loop-i in
-    let e : l.i ≡ c.args.n + 3 - 0 = omega arith in
-    let s = rw e at l.invariant.2 in record {
-      fact_1 = omega (arith, s.few);
-      fact_2 = sym s.count;
-      fact_3 = s.is;
-    }

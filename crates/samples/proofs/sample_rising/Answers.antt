@@ -1,11 +1,8 @@
 -- `samples::sample_rising` meets its contract.
-use mathlib.Core.Path.{refl, sym}
-use native.Mathlib.Nat.{add-zero}
-use mathlib.Core.List.{[]}
-use lib.Seq.{paste-zero}
+use mathlib.Core.Path.{refl}
 use Rattle.meaning.proofs.Filling.{length-listed}
 use Rattle.samples.specs.Samples.{sample_at}
-use Rattle.samples.proofs.Sampled.{all_rising, none_rising}
+use Rattle.samples.proofs.Sampled.{all_rising}
 use Rattle.samples.proofs.sample_rising.Goals as goal
 
 pub returns-then-w1-w0 : goal.returns-then-w1-w0
@@ -13,8 +10,3 @@ returns-then-w1-w0 c =
     let a = c.args in
     let n = length-listed 0 a.per (sample_at a.w0 a.w1 a.per) in
     rw (all_rising a.w0 a.w1 a.per c.if-w1-w0.true, n) (record { fact_1 = refl; fact_2 = c.sample_pair.ensures })
-
-pub returns : goal.returns
-returns c =
-    let a = c.args in
-    rw (none_rising a.w0 a.w1 a.per c.if-w1-w0.false) (record { fact_1 = sym (add-zero a.at); fact_2 = paste-zero a.room.now a.at [] })

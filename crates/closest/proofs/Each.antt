@@ -8,7 +8,7 @@ use native.Mathlib.Omega.{arith}
 use borrow.Author.Tests.{eq-eqb, ne_eqb}
 use lib.Dec.{T}
 use lib.ListN.{length, get_or, set, take, drop}
-use lib.Seq.{set_split, set-get_or, drop-cons}
+use lib.Seq.{set_split, drop-cons}
 use lib.Ieee.{Float, nan}
 use Rattle.meaning.specs.Scalar.{plain}
 use Rattle.meaning.specs.Table.{at1}
@@ -18,16 +18,14 @@ use Rattle.refusal.specs.declared.Refusal.{Refusal}
 use Rattle.refusal.specs.Refusals.{Row, refusal, first_of}
 use Rattle.refusal.proofs.Rows.{Passed, number_of, numbered, row-applies, row-passes, row_passed, first_decides, second_decides}
 use Rattle.outcome.specs.Outcome.{Outcome}
-use Rattle.outcome.specs.declared.Told.{Told}
-use Rattle.outcome.specs.declared.Told.TheVariants.{Is, Refused}
-use Rattle.outcome.specs.Told.{Values, told}
+use Rattle.outcome.specs.Told.{Values}
 use Rattle.shape.specs.Shape.{points_in}
 use Rattle.shape.specs.Offered.{Offered}
 use Rattle.shape.specs.Trusting.{trusting}
 use Rattle.rooms.specs.declared.Rooms.{Rooms}
 use Rattle.many.specs.Many.{place_of, room_row, many}
 use Rattle.many.proofs.Rooms.{room_passed}
-use Rattle.many.proofs.Asked.{Keeps, Asked, asked-first, asked-long, asked_next, asked_all, many_refused, many-answered}
+use Rattle.many.proofs.Asked.{Keeps, Asked, asked-first, asked-long, asked_next, many_refused, many-answered}
 use Rattle.closest.specs.Search.{closest_answer}
 use Rattle.closest.proofs.Past.{search_past}
 use Rattle.closest.specs.Many.{point_at, handed_to, each_found, many_rules, closest_many, Room}
@@ -53,22 +51,6 @@ module _ (out : List Float) (k : ℕ) (h : k < length out) where
       let left : (x ∷ []) ≡ (handed_to v (place_of 1 k out)).out = ap (λ (l : List Float). (handed_to v l).out) (sym one_place) in
       set_split out k x h ∙ (λ i. take (at i) out ++ (left i ++ drop (next i) out))
 
--- the cases of what was found
-module _ (f : Told) (out : List Float) (refusals : List ℕ) (k : ℕ) where
-  pub is_handed : {t : Float} → f ≡ Is t
-      → (set out k t ≡ set out k (get_or (told f).values 0 (at1 plain out k))) × (set refusals k 0 ≡ set refusals k (told f).refusal.number)
-  is_handed {t} e =
-      let v = sym (ap told e) in
-      (ap (λ (w : Values). set out k (get_or w.values 0 (at1 plain out k))) v, ap (λ (w : Values). set refusals k w.refusal.number) v)
-
-  pub refusal-handed : {r : Refusal} → f ≡ Refused r
-      → (out ≡ set out k (get_or (told f).values 0 (at1 plain out k))) × (set refusals k r.number ≡ set refusals k (told f).refusal.number)
-  refusal-handed {r} e =
-      let v = sym (ap told e) in (
-        sym (set-get_or out k nan) ∙ ap (λ (w : Values). set out k (get_or w.values 0 (at1 plain out k))) v,
-        ap (λ (w : Values). set refusals k w.refusal.number) v,
-      )
-
 -- ---- the loop
 
 -- before turn k
@@ -91,9 +73,6 @@ module _ {who : Offered} {points out : List Float} {refusals : List ℕ} where
       pub turned_place : k < length out'
       turned_place = omega (arith, a.all, a.long, room.places)
 
-      pub turned_number : k < length refusals'
-      turned_number = omega (arith, a.all, a.numbers, room.numbers)
-
       pub turned_next : (v : Values) → v ≡ closest_answer who (point_at points k) → {next : List Float} {told : List ℕ}
           → (next ≡ set out' k (get_or v.values 0 (at1 plain out' k))) × (told ≡ set refusals' k v.refusal.number)
           → Turned who points out refusals n (k + 1) next told
@@ -106,10 +85,6 @@ module _ {who : Offered} {points out : List Float} {refusals : List ℕ} where
           (ap (λ (w : Values). handed_to w place) e) (c.0 ∙ handed_back out' k turned_place v) c.1 in
           let lengths = asked-long 1 each out refusals (points_in points) places keeps room.numbers asked (omega (arith, a.all)) in
           record { all = a.all; low = omega arith; long = lengths.0; numbers = lengths.1; asked = asked }
-
-  pub turned_all : {n k : ℕ} {out' : List Float} {refusals' : List ℕ} → Turned who points out refusals n k out' refusals' → n ≤ k
-      → Asked 1 (each_found who points) out refusals (points_in points) out' refusals'
-  turned_all a h = asked_all a.asked (omega (arith, a.all, a.low))
 
 -- the same curve in other rooms
 pub asked_of : (points : List Float) {k d : Rooms} → k ≡ d → {out out' : List Float} {refusals refusals' : List ℕ} {n : ℕ}

@@ -1,14 +1,11 @@
 -- `closest::newton` meets its contract: the laws of a `while` loop, with the rounds that are left as its measure.
 use mathlib.Core.Path.{ap}
 use borrow.Author.Tests.{lt-ltb, le-ltb}
-use Rattle.meaning.proofs.While.{begin, turn, end}
+use Rattle.meaning.proofs.While.{turn, end}
 use Rattle.closest.specs.Search.{newton_from}
 use Rattle.closest.specs.declared.Progress.{Progress}
 use Rattle.closest.proofs.Falls.{round_falls}
 use Rattle.closest.proofs.newton.Goals as goal
-
-pub loop-s-init : goal.loop-s-init
-loop-s-init c = begin _ _ _ (round_falls _ _) _
 
 pub loop-s-smaller : goal.loop-s-smaller
 loop-s-smaller c = rw c.round-s.ensures (round_falls _ _ _ (lt-ltb _ _ c.loop-s-test.true))

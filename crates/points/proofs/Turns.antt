@@ -1,54 +1,23 @@
--- One parameter of many: its place as it is lent and as it comes back, and that it stays as long as it was. Assumes nothing.
-use mathlib.Core.Path.{◌≡◌, refl, ap, ◌∙◌}
+-- One parameter of many: that its place stays as long as it was, and a turn of the loop over them. Assumes nothing.
+use mathlib.Core.Path.{◌≡◌, refl, ap}
 use mathlib.Core.List.{List, []}
-use Prim.Native.Nat.{ℕ, ◌+◌, ◌-◌, ◌*◌, ◌≤◌, ◌<◌, zero-le}
-use native.Mathlib.Nat.{mul-le-mul_right}
+use Prim.Native.Nat.{ℕ, ◌+◌, ◌≤◌, ◌<◌, zero-le}
 use native.Mathlib.Omega.{arith}
 use borrow.Author.Tests.{eqb-true, ltb-false}
-use borrow.Rule.Slice.PartMut.{put_mid, Post-is}
-use lib.ListN.{length, set, take, drop}
+use lib.ListN.{length, set}
 use lib.Seq.{length-paste}
 use lib.Ieee.{Float}
 use Rattle.meaning.specs.Scalar.{plain}
 use Rattle.meaning.specs.Table.{at1}
 use Rattle.meaning.proofs.Tests.{by_two}
-use Rattle.refusal.specs.declared.Refusal.{Refusal}
 use Rattle.refusal.specs.Refusals.{first_of, passes}
 use Rattle.refusal.proofs.Rows.{row_passed}
-use Rattle.outcome.specs.Outcome.{Outcome, outcome, answering}
+use Rattle.outcome.specs.Outcome.{answering}
 use Rattle.outcome.proofs.Wild.{tame_long}
 use Rattle.many.specs.Many.{place_of}
-use Rattle.many.proofs.Asked.{Keeps, Asked, asked-first, asked-long, asked_next, asked_all}
+use Rattle.many.proofs.Asked.{Keeps, Asked, asked-first, asked-long, asked_next}
 use Rattle.point.specs.Point.{numbers_for, point_rows}
 use Rattle.points.specs.Turn.{of_orders, each_of, put_back, Fits}
-
-module _ (w k : ℕ) (out : List Float) where
-  width : k * w + w - k * w ≡ w
-  width = omega arith
-
-  lent : take (k * w + w - k * w) (drop (k * w) out) ≡ place_of w k out
-  lent = ap (λ (n : ℕ). take n (drop (k * w) out)) width
-
-  back : (y : List Float) → put_mid (k * w) (k * w + w - k * w) out y ≡ put_back w k out y
-  back y = rw (Post-is (k * w) (k * w + w) out (omega arith))
-
-module _ (room : List Float) (t : Float) (order k : ℕ) (out : List Float) {r : Refusal} {y : List Float}
-    (e : outcome r y ≡ of_orders room t order (take (k * numbers_for order + numbers_for order - k * numbers_for order) (drop (k * numbers_for order) out))) where
-  abbrev w : ℕ
-  w = numbers_for order
-
-  answered : outcome r y ≡ of_orders room t order (place_of w k out)
-  answered = e ∙ ap (of_orders room t order) (lent w k out)
-
-  pub place_back : put_mid (k * numbers_for order) (k * numbers_for order + numbers_for order - k * numbers_for order) out y
-      ≡ put_back (numbers_for order) k out (of_orders room t order (place_of (numbers_for order) k out)).out
-  place_back = back w k out y ∙ ap (λ (o : Outcome). put_back w k out o.out) answered
-
-  pub number_back : (refusals : List ℕ) → set refusals k r.number
-      ≡ set refusals k (of_orders room t order (place_of (numbers_for order) k out)).refusal.number
-  number_back refusals = ap (λ (o : Outcome). set refusals k o.refusal.number) answered
-
--- ---- the loop
 
 -- a place stays as long as it was
 pub keeps_place : (numbers : List Float) (t : Float) (order : ℕ) (place : List Float) → length (of_orders numbers t order place).out ≡ length place
@@ -83,11 +52,6 @@ module _ {orders : Float → List Float} {ts : List Float} {order : ℕ} {out : 
 
   module _ (f : Fits (length ts) order out refusals) {n k : ℕ} {out' : List Float} {refusals' : List ℕ}
       (a : Turned orders ts order out refusals n k out' refusals') (h : k < n) where
-    pub turned_fits : Fits (k + 1) order out' refusals'
-    turned_fits =
-        let m : (k + 1) * numbers_for order ≤ length ts * numbers_for order = mul-le-mul_right (numbers_for order) (omega (arith, a.all)) in
-        record { low = f.low; places = omega (arith, f.places, a.long, m); numbers = omega (arith, f.numbers, a.numbers, a.all) }
-
     pub turned_next : {room : List Float} → room ≡ orders (at1 plain ts k) → {next : List Float} {told : List ℕ}
         → (next ≡ put_back (numbers_for order) k out' (of_orders room (at1 plain ts k) order (place_of (numbers_for order) k out')).out)
         × (told ≡ set refusals' k (of_orders room (at1 plain ts k) order (place_of (numbers_for order) k out')).refusal.number)
@@ -101,7 +65,3 @@ module _ {orders : Float → List Float} {ts : List Float} {order : ℕ} {out : 
         (of_orders room (at1 plain ts k) order place) (ap (λ (l : List Float). of_orders l (at1 plain ts k) order place) e) c.0 c.1 in
         let lengths = asked-long (numbers_for order) each out refusals (length ts) f.places keeps f.numbers asked (omega (arith, a.all)) in
         record { all = a.all; low = omega arith; long = lengths.0; numbers = lengths.1; asked = asked }
-
-  pub turned_all : {n k : ℕ} {out' : List Float} {refusals' : List ℕ} → Turned orders ts order out refusals n k out' refusals' → n ≤ k
-      → Asked (numbers_for order) (each_of orders ts order) out refusals (length ts) out' refusals'
-  turned_all a h = asked_all a.asked (omega (arith, a.all, a.low))

@@ -2,7 +2,6 @@
 # folder tools, and `name`: its program is NAME_src/main.rs. From the environment:
 #   THRESHDUNE_ORIGINAL  the folder of the original (see oracle/build)
 #   THRESHDUNE_ARCHIVE   a static library to take in place of making one
-#   NATIVE_LIB           on a processor that is not x86-64: the script that makes the library for it, from the repository's root
 #   RUSTC                the Rust compiler
 root=$(dirname "$here")
 oracle=$root/target/oracle
@@ -14,17 +13,9 @@ archive=${THRESHDUNE_ARCHIVE:-}
 case $archive in '' | /*) ;; *) archive=$PWD/$archive ;; esac
 
 make_archive() { # proves the crate, and so takes its time where something has changed
-    cd "$root"
-    case $(uname -m) in
-    x86_64)
-        rt staticlib threshdune || die "rt made no static library"
-        archive=$root/target/staticlib/libthreshdune.a
-        ;;
-    *)
-        "${NATIVE_LIB:-$root/../shared/tools/native-lib}" threshdune target/native || die "no library for this processor"
-        archive=$root/target/native/libthreshdune.a
-        ;;
-    esac
+    . "$here/kit.sh"
+    build_library threshdune || die "rt made no static library"
+    archive=$root/crates/threshdune/out/libthreshdune.a
 }
 
 have_oracle() {

@@ -12,7 +12,7 @@ die() { echo "tools/$(basename "$0"): $*" >&2; exit 2; }
 archive=${THRESHDUNE_ARCHIVE:-}
 case $archive in '' | /*) ;; *) archive=$PWD/$archive ;; esac
 
-make_archive() { # proves the crate, and so takes its time where something has changed
+make_archive() { # proves the crate: minutes where something has changed, some 20 seconds where nothing has
     . "$here/kit.sh"
     build_library threshdune || die "rt made no static library"
     archive=$root/crates/threshdune/out/libthreshdune.a

@@ -1,3 +1,2 @@
--- The laws of signed numbers as the columns need them, and of the columns.
-pub mod Signed
+-- The laws of the columns.
 pub mod Columns

@@ -7,7 +7,7 @@ use Rattle.refusal.proofs.Rows.{Passed}
 use Rattle.knots.specs.declared.Form.{Form}
 use Rattle.knots.specs.declared.Form.TheVariants.{Control, Fit}
 use Rattle.curve.specs.declared.Curve.{Curve}
-use Rattle.curve.specs.declared.Built.{Built}
+use Rattle.curve.specs.Build.{Built}
 use Rattle.curve.specs.Record.{by_record}
 use Rattle.curve.proofs.Builds.{built_passed, built_curve}
 use Rattle.control.proofs.Rechecked.{control_rechecked}

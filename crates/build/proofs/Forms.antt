@@ -10,8 +10,7 @@ use lib.ListN.{length}
 use lib.Ieee.{Float}
 use Rattle.knots.specs.declared.Form.{Form}
 use Rattle.knots.specs.declared.Form.TheVariants.{Control, Fit}
-use Rattle.curve.specs.declared.Built.{Built}
-use Rattle.curve.specs.Build.{building, control_curve}
+use Rattle.curve.specs.Build.{Built, building, control_curve}
 use Rattle.control.specs.Rules.{control_rules}
 use Rattle.fit.specs.Fit.{making}
 use Rattle.fit.specs.Fitting.{work_short, fitting}

@@ -11,15 +11,16 @@ use lib.Ieee.{Float}
 use Rattle.meaning.proofs.Filling.{length-listed}
 use Rattle.meaning.proofs.Tests.{or_left, or_right}
 use Rattle.refusal.specs.Refusals.{Row, passes}
-use Rattle.refusal.proofs.Rows.{Passed}
+use Rattle.refusal.proofs.Rows.{Passed, number_of}
+use Rattle.outcome.specs.Outcome.{answering}
+use Rattle.outcome.proofs.Doors.{passes_false}
 use Rattle.knots.specs.declared.Form.{Form}
 use Rattle.knots.specs.declared.Form.TheVariants.{Control, Fit}
 use Rattle.knots.proofs.Accepted.{Accepted}
 use Rattle.buffer.specs.Pasted.{pasted}
 use Rattle.curve.specs.declared.Curve.{Curve}
-use Rattle.curve.specs.declared.Built.{Built}
 use Rattle.curve.specs.Record.{empty_curve}
-use Rattle.curve.specs.Build.{building}
+use Rattle.curve.specs.Build.{Built, building}
 use Rattle.curve.proofs.Recheck.{record_sound}
 use Rattle.curve.proofs.Put.{put_built}
 use Rattle.curve.proofs.Builds.{built-refusal, build_parts}
@@ -96,3 +97,9 @@ module _ (form : Form) (coords : List Float) (given : Bool) (ks work control out
         put_built rules curve is_built (λ d. d.knots) (λ d. d.knot_count) out refl refl (knots_are form coords given ks)
         (λ z. (stored z, ltb-false _ _ (or_right (ltb (length control) (2 * m)) _ (room z)))) k in
         λ i. sliced (built-refusal rules curve is_built i) (points i) (knots i) (whole i).work
+
+    pub refused_into : (b.refusal.number ≡ 0 → ⊥) → sliced b.refusal control out work' ≡ built_into form coords given ks work control out
+    unfolding answering
+    refused_into h =
+        let told = built-refusal rules curve is_built in
+        rw (passes_false rules (λ z. h (number_of told ∙ z))) (λ i. sliced (told i) control out (whole i).work)

@@ -5,8 +5,7 @@ use Rattle.std.specs.Float.Ieee.Scale.{finite}
 use Rattle.meaning.specs.Scalar.{plain}
 use Rattle.meaning.specs.Table.{at1}
 use Rattle.meaning.specs.Search.{listed}
-use Rattle.refusal.specs.declared.Refusal.{Refusal}
-use Rattle.refusal.specs.Refusals.{Row, first_of}
+use Rattle.refusal.specs.Refusals.{Verdict, Row, first_of}
 use Rattle.knots.specs.declared.Form.{Form}
 use Rattle.knots.specs.declared.Form.TheVariants.{Control, Fit}
 use Rattle.outcome.specs.Outcome.{answering}
@@ -79,12 +78,12 @@ lacks_room form coords control out = let m = controls_in form coords in ltb (len
 
 -- the refusal, and the three lent slices afterwards
 pub record Sliced : Type 0 where
-  pub refusal : Refusal
+  pub refusal : Verdict
   pub control : List Float
   pub knots : List Float
   pub work : List Float
 
-abbrev pub sliced : Refusal → List Float → List Float → List Float → Sliced
+abbrev pub sliced : Verdict → List Float → List Float → List Float → Sliced
 sliced r control out work = record { refusal = r; control = control; knots = out; work = work }
 
 -- what it leaves behind

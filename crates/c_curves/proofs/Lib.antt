@@ -1,3 +1,2 @@
--- Numbers handed on, case by case.
-pub mod Handed
+-- The room that a slice fills.
 pub mod Rooms

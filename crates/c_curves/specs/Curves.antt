@@ -1,7 +1,6 @@
 -- How curves and numbers cross between C and the library. include/threshdune_parts.h says the same in words.
 use Rattle.std.specs.Prelude.{ℕ, min, Bool, not, cond, List, eqb, length, get_or, replicate, Float}
 use Rattle.meaning.specs.Scalar.{zero64}
-use Rattle.refusal.specs.declared.Refusal.{Refusal}
 use Rattle.knots.specs.declared.Form.{Form}
 use Rattle.knots.specs.declared.Form.TheVariants.{Control, Fit}
 use Rattle.buffer.specs.Pasted.{pasted}
@@ -9,6 +8,7 @@ use Rattle.outcome.specs.Told.{Values}
 use Rattle.shape.specs.Offered.{Offered}
 use Rattle.curve.specs.declared.Curve.{Curve}
 use Rattle.curve.specs.Record.{by_record}
+use Rattle.refusal.specs.Refusals.{Verdict}
 
 -- ---- in
 
@@ -36,10 +36,10 @@ as_record n k l xs ys ks = by_record (read_curve n k l xs ys ks)
 -- ---- out: the refusal, and what lies behind a lent pointer afterwards; a refusal leaves it as it was
 
 pub record Behind : Type 0 where
-  pub refusal : Refusal
+  pub refusal : Verdict
   pub value : Float
 
-abbrev pub behind : Refusal → Float → Behind
+abbrev pub behind : Verdict → Float → Behind
 behind r x = record { refusal = r; value = x }
 
 -- value i of an answer, where there is one

@@ -1,31 +1,20 @@
 -- Slices that are read past their end, and slices that numbers were put into. Assumes nothing.
 use mathlib.Core.Path.{◌≡◌, refl, sym, ap}
 use mathlib.Core.List.{List, [], ◌∷◌, ◌++◌}
-use Prim.Native.Nat.{ℕ, zero, suc, ◌+◌, ◌-◌, ◌≤◌, ◌<◌}
+use Prim.Native.Nat.{ℕ, ◌+◌, ◌≤◌, ◌<◌}
 use native.Mathlib.Nat.{le_of_suc-le-suc, not-suc-le-zero, add_assoc}
 use native.Mathlib.Numerals.{add-one}
 use native.Mathlib.Omega.{arith}
-use borrow.Author.Tests.{le-leb}
-use lib.ListN.{length, get_or, set, take, drop, length-set}
+use lib.ListN.{length, set, take, drop}
 use lib.Seq.{paste, append_snoc, take-suc-set, drop-set-lt}
-use Rattle.buffer.specs.Pasted.{pasted}
 
 module _ {A : Type 0} where
-  -- within a list the default does not matter
-  pub inside : (l : List A) (i : ℕ) (d e : A) → i < length l → get_or l i d ≡ get_or l i e
-  inside [] i d e h = absurd (not-suc-le-zero h)
-  inside (x ∷ l) zero d e h = refl
-  inside (x ∷ l) (suc i) d e h = inside l i d e (le_of_suc-le-suc h)
-
   -- a number, and those after it, are put in one after the other
-  pub head_and_rest : (out : List A) (at : ℕ) (v : A) (g : List A) → length g ≡ 27 → at + 28 ≤ length out
-      → pasted g 27 (set out at v) (at + 1) ≡ paste out at (v ∷ g) 28
-  unfolding pasted
-  head_and_rest out at v g l h =
-      let same : length (set out at v) ≡ length out = length-set out at v in
+  pub head_and_rest : (out : List A) (at : ℕ) (v : A) (g : List A) → at + 28 ≤ length out → paste (set out at v) (at + 1) g 27 ≡ paste out at (v ∷ g) 28
+  head_and_rest out at v g h =
       let here : at < length out = omega arith in
       let after : at + 1 + 27 ≡ at + 28 = add_assoc at 1 27 in
-      rw (le-leb 27 (length g) (omega arith), le-leb (at + 1) (length (set out at v)) (omega arith), le-leb 27 (length (set out at v) - (at + 1)) (omega arith), add-one at)
+      rw (add-one at)
       (rw (take-suc-set out at v here, sym (add-one at), after, drop-set-lt (at + 28) out at v (omega arith)) (ap (λ (l : List A). l ++ drop (at + 28) out) (append_snoc (take at out) v (take 27 g))))
 
   pub one_put : (out : List A) (x : A) → 1 ≤ length out → set out 0 x ≡ paste out 0 (x ∷ []) 1

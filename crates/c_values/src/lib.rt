@@ -4,32 +4,25 @@
 ghost use Rattle.std.specs.Prelude.{◌≡◌, ◌∷◌, ◌+◌, ◌≤◌, length, get_or};
 ghost use Rattle.std.proofs.Math.Seq.{paste};
 ghost use Rattle.plane.specs.View.{view};
-ghost use Rattle.plane_partials.specs.View.{view_d};
 ghost use Rattle.meaning.specs.Search.{listed};
 ghost use Rattle.c_values.specs.Crossing.{entry_of, read_dv, read_v, read_six, value_of, all_numbers, AnsweredD, AnsweredV, AnsweredP, AnsweredB};
 
 use partials::Dv;
 use plane::P2;
-use plane_partials::P2d;
+use std::array;
 
 // The number at i, +0.0 where there is none.
 fn entry(s: &[f64], i: usize) -> f64
     ensures { result ≡ entry_of s.now i }
 {
-    if i < s.len() {
-        return s[i];
-    }
-    0.0
+    s.get(i).copied().unwrap_or(0.0)
 }
 
 // The count at i, 0 where there is none.
 fn count_at(ns: &[u64], i: usize) -> usize
     ensures { result ≡ get_or ns.now i 0 }
 {
-    if i < ns.len() {
-        return ns[i] as usize;
-    }
-    0
+    ns.get(i).copied().unwrap_or(0) as usize
 }
 
 // The value with n partials that stands in s from index at on.
@@ -37,13 +30,9 @@ fn read(s: &[f64], at: usize, n: usize) -> Dv
     requires { at ≤ 140 }
     ensures { result ≡ read_dv s.now at n }
 {
-    let mut g = [0.0; 27];
-    for k in 0..27 {
-        g[k] = entry(s, at + 1 + k);
-    }
     Dv {
         v: entry(s, at),
-        g,
+        g: array::from_fn(|k| entry(s, at + 1 + k)),
         n,
     }
 }
@@ -56,25 +45,20 @@ pub fn read_value(s: &[f64], n: usize) -> Dv
 }
 
 // The vector with partials that stands in s.
-pub fn read_vector(s: &[f64], ns: &[u64]) -> P2d
-    ensures { view_d result ≡ read_v s.now ns.now }
+pub fn read_vector(s: &[f64], ns: &[u64]) -> P2<Dv>
+    ensures { view result ≡ read_v s.now ns.now }
 {
-    let x = read(s, 0, count_at(ns, 0));
-    let y = read(s, 28, count_at(ns, 1));
-    P2d { x, y }
+    P2 {
+        x: read(s, 0, count_at(ns, 0)),
+        y: read(s, 28, count_at(ns, 1)),
+    }
 }
 
 // The six values with partials that stand in s, one behind the other.
 pub fn read_six(s: &[f64], ns: &[u64]) -> [Dv; 6]
     ensures { result ≡ read_six s.now ns.now }
 {
-    let zero = Dv::cst(0.0);
-    let mut w = [zero; 6];
-    for i in 0..6 {
-        let next = read(s, 28 * i, count_at(ns, i));
-        w[i] = next;
-    }
-    w
+    array::from_fn(|i| read(s, 28 * i, count_at(ns, i)))
 }
 
 // Puts the numbers of d into out from index at on.
@@ -83,11 +67,11 @@ fn write(d: Dv, out: &mut [f64], at: usize)
     ensures out_after { out.new ≡ paste out.old at (d.v ∷ d.g) 28 }
     ensures g_len { length d.g ≡ 27 }
 {
-    let g = d.g;
     out[at] = d.v;
-    buffer::put(&g, 27, out, at + 1);
+    out[at + 1..at + 28].copy_from_slice(&d.g);
 }
 
+// Stays: the answers below are C's numbers, 0 and that of rule 14.
 // Answers a value with partials: 14 where out has no room for it.
 pub fn answer(d: Dv, out: &mut [f64], count: &mut u64) -> u64
     ensures { AnsweredD d out.old count.old result out.new count.new }
@@ -101,8 +85,8 @@ pub fn answer(d: Dv, out: &mut [f64], count: &mut u64) -> u64
 }
 
 // Answers a vector with partials: 14 where out or counts has no room for it.
-pub fn answer_vector(a: P2d, out: &mut [f64], counts: &mut [u64]) -> u64
-    ensures { AnsweredV (view_d a) out.old counts.old result out.new counts.new }
+pub fn answer_vector(a: P2<Dv>, out: &mut [f64], counts: &mut [u64]) -> u64
+    ensures { AnsweredV (view a) out.old counts.old result out.new counts.new }
 {
     if out.len() < 56 {
         return 14;
@@ -118,7 +102,7 @@ pub fn answer_vector(a: P2d, out: &mut [f64], counts: &mut [u64]) -> u64
 }
 
 // Answers two doubles: 14 where out has no room for them.
-pub fn answer_pair(a: P2, out: &mut [f64]) -> u64
+pub fn answer_pair(a: P2<f64>, out: &mut [f64]) -> u64
     ensures { AnsweredP (view a) out.old result out.new }
 {
     if out.len() < 2 {
@@ -130,6 +114,7 @@ pub fn answer_pair(a: P2, out: &mut [f64]) -> u64
 }
 
 // Puts the values of five rows into out, one behind the other, and their counts into counts.
+// Stays: the place of a value in out is its number among the 20, which no iterator over rows of rows counts for its proof.
 fn write_rows(rows: [[Dv; 4]; 5], out: &mut [f64], counts: &mut [u64])
     requires fact_1 { 560 ≤ length out.old }
     requires fact_2 { 20 ≤ length counts.old }

@@ -1,11 +1,11 @@
 -- Cells in two slices: which there are, and what writing one makes of all of them. Assumes nothing.
 use mathlib.Core.Path.{◌≡◌, refl, sym, ap, ◌∙◌, subst}
-use mathlib.Core.Bool.{true, cond}
+use mathlib.Core.Bool.{true}
 use mathlib.Core.List.{List, ◌++◌, append_assoc}
 use Prim.Native.Nat.{ℕ, zero, suc, ◌+◌, ◌-◌, ◌*◌, ◌≤◌, ◌<◌, min}
 use native.Mathlib.Nat.{min-eq_left}
 use native.Mathlib.Omega.{arith}
-use lib.ListN.{length, get_or, set, take, drop, length-set, get_or-append}
+use lib.ListN.{length, get_or, set, take, drop, replicate, length-set, length-drop, length-replicate, get_or-append, get_or-replicate}
 use lib.Seq.{paste, get_or-append-add, get_or-take, get_or-drop, get_or-set_same, get_or-set_other, length-take-le, length-paste, length_paste_head, take_all}
 use lib.Dec.{leb, ltb}
 use borrow.Author.Tests.{leb-true, ltb-true, ltb-false, le-leb, le-ltb, lt-ltb}
@@ -13,7 +13,7 @@ use borrow.Rule.Slice.PartMut.{put_mid, Post-is}
 use lib.Ieee.{Float, nan}
 use Rattle.meaning.proofs.Tests.{by_two, and_left, and_right}
 use Rattle.meaning.specs.Scalar.{zero64}
-use Rattle.meaning.proofs.Filling.{Filled, full, length-listed, nth_listed}
+use Rattle.meaning.proofs.Filling.{full, length-listed, nth_listed}
 use Rattle.solve.proofs.Lists.{row_le}
 use Rattle.partials.specs.declared.Dv.{Dv}
 use Rattle.partials.specs.Dual.{count_of, part_of}
@@ -156,10 +156,69 @@ module _ (c n : ℕ) (d : Dv) (e : n ≡ min (count_of d) c) where
   missing zero h l = absurd (omega arith)
   missing (suc k) h l = rw (le-ltb k (count_of d) (omega arith)) refl
 
-  pub cell_filled : {j : ℕ} {t t' : List Float} → Filled (headed d.v (λ k. get_or d.g k nan)) nan (c + 1) (n + 1) t
-      → Filled (λ k. cond (ltb k (n + 1)) (get_or t k nan) zero64) nan (c + 1) (j + 1) t' → c ≤ j → t' ≡ doubles_of c d
-  unfolding doubles_of
-  cell_filled {j} {t} {t'} a b h =
-      let number : (i : ℕ) → i < c + 1 → cond (ltb i (n + 1)) (get_or t i nan) zero64 ≡ headed d.v (part_of d) i =
-      λ i l. by_two (ltb i (n + 1)) (λ q. let g = ltb-true i (n + 1) q in rw q (a.same i g ∙ written i g)) (λ q. rw q (missing i (ltb-false i (n + 1) q) l)) in
-      full {k = j + 1} (record { long = b.long; high = b.high; same = λ i l. b.same i l ∙ number i (omega (arith, b.high)) }) (omega arith)
+  module _ (t l : List Float) (long : length t ≡ c + 1) (ll : length l ≡ n) (hl : (j : ℕ) → j < n → get_or l j nan ≡ get_or d.g j nan) where
+    abbrev headed_by : List Float
+    headed_by = set t 0 d.v
+
+    -- the value and the partials put there
+    abbrev pub partly : List Float
+    partly = put_mid 1 (n + 1 - 1) headed_by l
+
+    abbrev pasted : List Float
+    pasted = paste headed_by 1 l n
+
+    same : partly ≡ pasted
+    same = let one : n + 1 - 1 ≡ 1 + n - 1 = omega arith in (λ i. put_mid 1 (one i) headed_by l) ∙ back_paste headed_by l 1 n ll
+
+    room : 1 + n ≤ length headed_by
+    room = omega (arith, length-set t 0 d.v, long, e)
+
+    pasted-long : length pasted ≡ c + 1
+    pasted-long = length-paste headed_by 1 l n room (omega (arith, ll)) ∙ length-set t 0 d.v ∙ long
+
+    front : (i : ℕ) → i < n + 1 → get_or pasted i nan ≡ headed d.v (λ j. get_or d.g j nan) i
+    front zero g = paste_before headed_by l 1 n room ll nan 0 (omega arith) ∙ get_or-set_same t 0 d.v nan (omega (arith, long))
+    front (suc j) g =
+        let at : suc j ≡ 1 + j = omega arith in
+        ap (λ (i : ℕ). get_or pasted i nan) at ∙ paste_inside headed_by l 1 n room ll nan j (omega arith) ∙ hl j (omega arith)
+
+    rest : n + 1 + (c - n) ≤ length pasted
+    rest = omega (arith, pasted-long, e)
+
+    module _ (k : List Float) (lk : length k ≡ c - n) (hk : (j : ℕ) → j < c - n → get_or k j nan ≡ zero64) where
+      abbrev whole : List Float
+      whole = paste pasted (n + 1) k (c - n)
+
+      number : (i : ℕ) → i < c + 1 → get_or whole i nan ≡ headed d.v (part_of d) i
+      number i h =
+          by_two (ltb i (n + 1))
+          (λ q.
+          let g = ltb-true i (n + 1) q in
+          paste_before pasted k (n + 1) (c - n) rest lk nan i g ∙ front i g ∙ written i g)
+          (λ q.
+          let g = ltb-false i (n + 1) q in
+          let at : i ≡ n + 1 + (i - (n + 1)) = omega arith in
+          ap (λ (j : ℕ). get_or whole j nan) at ∙ paste_inside pasted k (n + 1) (c - n) rest lk nan (i - (n + 1)) (omega arith)
+          ∙ hk (i - (n + 1)) (omega arith) ∙ missing i g h)
+
+      full_cell : put_mid (n + 1) (length pasted - (n + 1)) pasted k ≡ doubles_of c d
+      unfolding doubles_of
+      full_cell =
+          let two : length pasted - (n + 1) ≡ n + 1 + (c - n) - (n + 1) = omega (arith, pasted-long, e) in
+          let long' : length whole ≡ c + 1 = length-paste pasted (n + 1) k (c - n) rest (omega (arith, lk)) ∙ pasted-long in
+          (λ i. put_mid (n + 1) (two i) pasted k)
+          ∙ back_paste pasted k (n + 1) (c - n) lk
+          ∙ full {k = c + 1} (record { long = long'; high = omega arith; same = number }) (omega arith)
+
+    -- and what is left of the cell, k, filled with +0.0
+    pub cell_laid : (k : List Float) → k ≡ replicate (length (take (length partly - (n + 1)) (drop (n + 1) partly))) zero64
+        → put_mid (n + 1) (length partly - (n + 1)) partly k ≡ doubles_of c d
+    cell_laid k q =
+        let size : length (take (length partly - (n + 1)) (drop (n + 1) partly)) ≡ c - n =
+        (λ i. length (take (length (same i) - (n + 1)) (drop (n + 1) (same i))))
+        ∙ length-take-le (length pasted - (n + 1)) (drop (n + 1) pasted) (omega (arith, length-drop (n + 1) pasted))
+        ∙ omega (arith, pasted-long) in
+        let is : k ≡ replicate (c - n) zero64 = q ∙ ap (λ (i : ℕ). replicate i zero64) size in
+        (λ i. put_mid (n + 1) (length (same i) - (n + 1)) (same i) k)
+        ∙ full_cell k (ap length is ∙ length-replicate (c - n) zero64)
+        (λ j h. ap (λ (l : List Float). get_or l j nan) is ∙ get_or-replicate (c - n) j zero64 nan h)

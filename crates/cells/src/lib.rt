@@ -12,33 +12,7 @@ use partials::Dv;
 fn has_cell(doubles: usize, bytes: usize, c: usize, k: usize) -> bool
     ensures { result ≡ has_cell doubles bytes c k }
 {
-    if c > 27 {
-        return false;
-    }
-    if k > 223 {
-        return false;
-    }
-    if bytes <= k {
-        return false;
-    }
-    k * (c + 1) + (c + 1) <= doubles
-}
-
-// A count, read as c where it is larger.
-fn counted(n: usize, c: usize) -> usize
-    ensures { (result ≡ min n c) × (result ≤ c) }
-{
-    if n <= c {
-        return n;
-    }
-    c
-}
-
-// A byte as a count.
-fn wide(n: u8) -> usize
-    ensures { result ≡ n }
-{
-    n as usize
+    c <= 27 && k <= 223 && k < bytes && k * (c + 1) + (c + 1) <= doubles
 }
 
 // The value with n partials that lies in the doubles of a cell.
@@ -46,12 +20,9 @@ fn read_cell(t: &[f64], n: usize) -> Dv
     requires { (n < length t.now) × (n ≤ 27) }
     ensures { result ≡ value_of (λ j. get_or t.now j nan) n }
 {
-    let v = t[0];
     let mut g = [0.0; 27];
-    for j in 0..n {
-        g[j] = t[j + 1];
-    }
-    Dv { v, g, n }
+    g[..n].copy_from_slice(&t[1..n + 1]);
+    Dv { v: t[0], g, n }
 }
 
 // What lies in cell k, which there is.
@@ -59,10 +30,9 @@ fn get_cell(w: &[f64], ns: &[u8], c: usize, k: usize) -> Dv
     requires { (c ≤ 27) × (k < length ns.now) × (k * (c + 1) + (c + 1) ≤ length w.now) }
     ensures { result ≡ cell_at c w.now ns.now k }
 {
-    let n = counted(wide(ns[k]), c);
+    let n = usize::from(ns[k]).min(c);
     let a = k * (c + 1);
-    let e = a + (c + 1);
-    read_cell(&w[a..e], n)
+    read_cell(&w[a..a + (c + 1)], n)
 }
 
 // What lies in cell k of the slices, in rooms for c partials: +0.0 where c is above 27, k above 223, or a slice ends before that cell does.
@@ -80,15 +50,10 @@ fn write_cell(t: &mut [f64], d: Dv, c: usize)
     requires { length t.old ≡ c + 1 }
     ensures { t.new ≡ doubles_of c d }
 {
-    let g = d.g;
-    let n = counted(counted(d.n, 27), c);
+    let n = d.n.min(27).min(c);
     t[0] = d.v;
-    for j in 0..n {
-        t[j + 1] = g[j];
-    }
-    for j in n..c {
-        t[j + 1] = 0.0;
-    }
+    t[1..n + 1].copy_from_slice(&d.g[..n]);
+    t[n + 1..].fill(0.0);
 }
 
 // Cell k, which there is, replaced by d.
@@ -97,28 +62,27 @@ fn put_cell(w: &mut [f64], ns: &mut [u8], c: usize, k: usize, d: Dv)
     ensures { (w.new ≡ paste w.old (k * (c + 1)) (doubles_of c d) (c + 1))
         × (ns.new ≡ set ns.old k (min d.n c)) }
 {
-    let n = counted(d.n, c);
+    let n = d.n.min(c);
     ns[k] = n as u8;
     let a = k * (c + 1);
-    let e = a + (c + 1);
-    write_cell(&mut w[a..e], d, c);
+    write_cell(&mut w[a..a + (c + 1)], d, c);
 }
 
 // How many partials the value in cell k has, in rooms for c of them: 0 where there is no such cell.
 pub fn count(ns: &[u8], c: usize, k: usize) -> usize
     ensures { result ≡ min (get_or ns.now k 0) c }
 {
-    if ns.len() <= k {
-        return counted(0, c);
+    match ns.get(k) {
+        Some(n) => usize::from(*n).min(c),
+        None => 0,
     }
-    counted(wide(ns[k]), c)
 }
 
 // The value with n partials whose doubles are t; more than 27 are taken for 27.
 pub fn value(t: &[f64; 28], n: usize) -> Dv
     ensures { result ≡ value_of (λ j. get_or t.now j nan) (min n 27) }
 {
-    read_cell(t, counted(n, 27))
+    read_cell(t, n.min(27))
 }
 
 // The doubles that d has in a cell with room for 27 partials.
@@ -126,7 +90,7 @@ pub fn doubles(d: Dv) -> [f64; 28]
     ensures { result ≡ doubles_of 27 d }
 {
     let mut t = [0.0; 28];
-    write_cell(&mut t[..28], d, 27);
+    write_cell(&mut t, d, 27);
     t
 }
 
@@ -136,8 +100,7 @@ pub fn put(w: &mut [f64], ns: &mut [u8], c: usize, k: usize, d: Dv)
     ensures fact_1 { w.new ≡ doubles_with c w.old ns.old k d }
     ensures fact_2 { ns.new ≡ counts_with c w.old ns.old k d }
 {
-    if !has_cell(w.len(), ns.len(), c, k) {
-        return;
+    if has_cell(w.len(), ns.len(), c, k) {
+        put_cell(w, ns, c, k, d);
     }
-    put_cell(w, ns, c, k, d);
 }

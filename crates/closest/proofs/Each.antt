@@ -14,15 +14,13 @@ use Rattle.meaning.specs.Scalar.{plain}
 use Rattle.meaning.specs.Table.{at1}
 use Rattle.meaning.specs.Search.{listed}
 use Rattle.meaning.proofs.Filling.{length-listed}
-use Rattle.refusal.specs.declared.Refusal.{Refusal}
-use Rattle.refusal.specs.Refusals.{Row, refusal, first_of}
+use Rattle.refusal.specs.Refusals.{Verdict, Row, refusal, first_of}
 use Rattle.refusal.proofs.Rows.{Passed, number_of, numbered, row-applies, row-passes, row_passed, first_decides, second_decides}
 use Rattle.outcome.specs.Outcome.{Outcome}
 use Rattle.outcome.specs.Told.{Values}
-use Rattle.shape.specs.Shape.{points_in}
+use Rattle.shape.specs.Shape.{Shape, points_in}
 use Rattle.shape.specs.Offered.{Offered}
 use Rattle.shape.specs.Trusting.{trusting}
-use Rattle.rooms.specs.declared.Rooms.{Rooms}
 use Rattle.many.specs.Many.{place_of, room_row, many}
 use Rattle.many.proofs.Rooms.{room_passed}
 use Rattle.many.proofs.Asked.{Keeps, Asked, asked-first, asked-long, asked_next, many_refused, many-answered}
@@ -86,12 +84,12 @@ module _ {who : Offered} {points out : List Float} {refusals : List ℕ} where
           let lengths = asked-long 1 each out refusals (points_in points) places keeps room.numbers asked (omega (arith, a.all)) in
           record { all = a.all; low = omega arith; long = lengths.0; numbers = lengths.1; asked = asked }
 
--- the same curve in other rooms
-pub asked_of : (points : List Float) {k d : Rooms} → k ≡ d → {out out' : List Float} {refusals refusals' : List ℕ} {n : ℕ}
-    → Asked 1 (each_found (trusting k.points k.xs k.ys k.knots) points) out refusals n out' refusals'
-    → Asked 1 (each_found (trusting d.points d.xs d.ys d.knots) points) out refusals n out' refusals'
+-- a curve of the same shape
+pub asked_of : (points : List Float) {c d : Shape Float} → c ≡ d → {out out' : List Float} {refusals refusals' : List ℕ} {n : ℕ}
+    → Asked 1 (each_found (trusting c.n c.xs c.ys c.knots) points) out refusals n out' refusals'
+    → Asked 1 (each_found (trusting d.n d.xs d.ys d.knots) points) out refusals n out' refusals'
 asked_of points e {out} {out'} {refusals} {refusals'} {n} a =
-    subst (λ (c : Rooms). Asked 1 (each_found (trusting c.points c.xs c.ys c.knots) points) out refusals n out' refusals') e a
+    subst (λ (s : Shape Float). Asked 1 (each_found (trusting s.n s.xs s.ys s.knots) points) out refusals n out' refusals') e a
 
 -- ---- the call
 
@@ -99,11 +97,11 @@ module _ (who : Offered) (t : T (numbered who.rules)) (points out : List Float) 
   abbrev rules : List Row
   rules = many_rules who points (length out) (length refusals)
 
-  refused : {r : Refusal} → r ≡ first_of (many_rules who points (length out) (length refusals)) → (r.number ≡ 0 → ⊥) → many r out refusals ≡ closest_many who points out refusals
+  refused : {r : Verdict} → r ≡ first_of (many_rules who points (length out) (length refusals)) → (r.number ≡ 0 → ⊥) → many r out refusals ≡ closest_many who points out refusals
   unfolding closest_many
   refused e h = many_refused 1 (each_found who points) out refusals rules (points_in points) e h
 
-  pub odd_points : (length points % 2 ≡ 0 → ⊥) → {r : Refusal} → r ≡ refusal 1 → many r out refusals ≡ closest_many who points out refusals
+  pub odd_points : (length points % 2 ≡ 0 → ⊥) → {r : Verdict} → r ≡ refusal 1 → many r out refusals ≡ closest_many who points out refusals
   odd_points h e = refused (e ∙ sym (row-applies _ _ (ap not (ne_eqb (length points % 2) 0 h)))) (λ z. suc-ne-zero 0 (number_of (sym e) ∙ z))
 
   module _ (even : length points % 2 ≡ 0) where
@@ -113,10 +111,10 @@ module _ (who : Offered) (t : T (numbered who.rules)) (points out : List Float) 
     later : first_of (many_rules who points (length out) (length refusals)) ≡ first_of (who.rules ++ (room_row (points_in points) 1 (length out) (length refusals) ∷ []))
     later = row-passes _ _ (ap not (eq-eqb (length points % 2) 0 even))
 
-    pub curve_refused : {r : Refusal} → r ≡ first_of who.rules → (r.number ≡ 0 → ⊥) → many r out refusals ≡ closest_many who points out refusals
+    pub curve_refused : {r : Verdict} → r ≡ first_of who.rules → (r.number ≡ 0 → ⊥) → many r out refusals ≡ closest_many who points out refusals
     curve_refused e h = refused (e ∙ sym (later ∙ first_decides who.rules room (λ z. h (number_of e ∙ z)))) h
 
-    module _ (p : Passed who.rules) {r : Refusal} (e : r ≡ first_of (room_row (points_in points) 1 (length out) (length refusals) ∷ [])) where
+    module _ (p : Passed who.rules) {r : Verdict} (e : r ≡ first_of (room_row (points_in points) 1 (length out) (length refusals) ∷ [])) where
       first : r ≡ first_of (many_rules who points (length out) (length refusals))
       first = e ∙ sym (later ∙ second_decides who.rules room t p)
 

@@ -10,7 +10,7 @@ use Rattle.meaning.specs.Number.{size_of, clamp_of}
 use Rattle.plane.specs.Vector.{Vector}
 use Rattle.shape.specs.Shape.{Shape}
 use Rattle.closest.specs.Search.{still, from, to, slope_at, round_of, unfinished}
-use Rattle.closest.specs.declared.Progress.{Progress}
+use Rattle.closest.specs.Search.{Progress}
 
 module _ (c : Shape Float) (p : Vector Float) where
   pub round_falls : (s : Progress) → unfinished s ≡ true → (round_of c p s).left < s.left

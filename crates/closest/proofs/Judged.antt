@@ -4,8 +4,7 @@ use mathlib.Core.Bool.{Bool, true, false, not, ◌||◌}
 use mathlib.Core.List.{[], ◌∷◌}
 use borrow.Author.Tests.{not-false}
 use lib.Ieee.{Float, ne, is_nan}
-use Rattle.refusal.specs.declared.Refusal.{Refusal}
-use Rattle.refusal.specs.Refusals.{refusal, none}
+use Rattle.refusal.specs.Refusals.{Verdict, refusal, none}
 use Rattle.outcome.specs.Outcome.{either_wild}
 use Rattle.outcome.specs.Told.{Values, telling}
 use Rattle.outcome.proofs.Doors.{untold, tells, stop_told, pass_told, done-told}
@@ -23,7 +22,7 @@ module _ (c : Shape Float) (p : Vector Float) where
 
   -- the point
   module _ {w : Bool} (is : w ≡ either_wild p.x p.y) where
-    pub wild_point : w ≡ true → {r : Refusal} → r ≡ refusal 11 → Answers (untold r)
+    pub wild_point : w ≡ true → {r : Verdict} → r ≡ refusal 11 → Answers (untold r)
     wild_point h e = tells (stop_told 10 e (sym is ∙ h))
 
     -- the samples
@@ -34,7 +33,7 @@ module _ (c : Shape Float) (p : Vector Float) where
       all_fine_lem : best.fine ≡ samples_fine c p
       all_fine_lem = ap (λ (z : Best). z.fine) s ∙ fine_is c p
 
-      pub wild_sample : not best.fine ≡ true → {r : Refusal} → r ≡ refusal 15 → Answers (untold r)
+      pub wild_sample : not best.fine ≡ true → {r : Verdict} → r ≡ refusal 15 → Answers (untold r)
       wild_sample h e = tells (pass_told 11 tame (stop_told 14 e (rw (← all_fine_lem, h))))
 
       -- the last parameter
@@ -48,7 +47,7 @@ module _ (c : Shape Float) (p : Vector Float) where
         judged : {z : Bool} → ne t t ≡ z → not (samples_fine c p) || is_nan (closest_of c p) ≡ z
         judged h = rw (← all_fine_lem, f, ← last_is) (sym (nan_is t) ∙ h)
 
-        pub lost : ne t t ≡ true → {r : Refusal} → r ≡ refusal 15 → Answers (untold r)
+        pub lost : ne t t ≡ true → {r : Verdict} → r ≡ refusal 15 → Answers (untold r)
         lost h q = tells (pass_told 11 tame (stop_told 14 q (judged h)))
 
         pub found : ne t t ≡ false → Answers (record { refusal = none; values = t ∷ [] })

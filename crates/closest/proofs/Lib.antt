@@ -8,3 +8,4 @@ pub mod Started
 pub mod Nans
 pub mod Each
 pub mod Past
+pub mod Pairs

@@ -26,7 +26,7 @@ use Rattle.evaluate.specs.Point.{weighted, placed, inside_of, order_at, orders_o
 use Rattle.point.specs.Point.{point_orders}
 use Rattle.refusal.proofs.Rows.{row-applies, row-passes}
 use Rattle.closest.specs.Search.{order_in, still, from, to, slope_at, round_of, unfinished, samples_fine, nearest_sample, newton_from, closest_of, search_rules}
-use Rattle.closest.specs.declared.Progress.{Progress}
+use Rattle.closest.specs.Search.{Progress}
 
 -- ---- the point
 

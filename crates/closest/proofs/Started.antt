@@ -13,7 +13,7 @@ use Rattle.refusal.specs.Refusals.{row}
 use Rattle.refusal.proofs.Rows.{Passed, number_of, numbered, row_passed, both_pass}
 use Rattle.outcome.specs.Outcome.{either_wild}
 use Rattle.outcome.specs.Told.{Values, told, telling}
-use Rattle.outcome.specs.declared.Told.TheVariants.{Is}
+use Rattle.std.specs.Prelude.{Ok}
 use Rattle.outcome.proofs.Doors.{passes_true}
 use Rattle.plane.specs.Vector.{Vector}
 use Rattle.shape.specs.Shape.{Shape}
@@ -33,7 +33,7 @@ pub record FromNearest (c : Shape Float) (p : Vector Float) (t : Float) : Type 0
   pub nearest : IsFirst (distance_at c p) (samples_in c) k
   pub rounds : t ≡ newton_from c p (at1 plain (samples_in c) k)
 
-module _ (who : Offered) (p : Vector Float) (t : Float) (n : T (numbered who.rules)) (e : told (Is t) ≡ closest_answer who p) where
+module _ (who : Offered) (p : Vector Float) (t : Float) (n : T (numbered who.rules)) (e : told (Ok t) ≡ closest_answer who p) where
   abbrev c : Shape Float
   c = who.shape
 
@@ -57,10 +57,10 @@ module _ (who : Offered) (p : Vector Float) (t : Float) (n : T (numbered who.rul
   unfolding closest_of nearest_sample
   from_nearest = record { k = first_nearest (distance_at c p) (samples_in c); nearest = first_nearest_lem c p all_fine_lem; rounds = is_closest }
 
--- whatever `closest` and `closest_slices` answer
-pub record_closest : (c : Curve) (p : Vector Float) (t : Float) → told (Is t) ≡ closest_answer (by_record c) p → FromNearest (by_record c).shape p t
+-- whatever `closest` answers of a record and of slices
+pub record_closest : (c : Curve) (p : Vector Float) (t : Float) → told (Ok t) ≡ closest_answer (by_record c) p → FromNearest (by_record c).shape p t
 record_closest c p t e = from_nearest (by_record c) p t (record_sound c).counted e
 
-pub slices_closest : (coords ks : List Float) (p : Vector Float) (t : Float) → told (Is t) ≡ closest_answer (in_slices coords ks) p
+pub slices_closest : (coords ks : List Float) (p : Vector Float) (t : Float) → told (Ok t) ≡ closest_answer (in_slices coords ks) p
     → FromNearest (in_slices coords ks).shape p t
 slices_closest coords ks p t e = from_nearest (in_slices coords ks) p t (slices_sound coords ks).counted e

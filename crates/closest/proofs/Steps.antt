@@ -26,7 +26,7 @@ use Rattle.closest.specs.Search.{order_in, still, from, to, distance_at, slope_a
 use Rattle.closest.specs.Sampling.{square_at, beyond_limit, next_best, sampled}
 use Rattle.closest.specs.declared.Best.{Best}
 use Rattle.closest.specs.declared.Slope.{Slope}
-use Rattle.closest.specs.declared.Progress.{Progress}
+use Rattle.closest.specs.Search.{Progress}
 
 module _ (c : Shape Float) (good : Accepted (take (c.n + 4) c.knots) c.n) where
   -- the span that the code finds is the rules'

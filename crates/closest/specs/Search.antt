@@ -1,5 +1,5 @@
 -- The search for the closest parameter. docs/RULES.md, "Closest parameter", decides; in a round the original's `closest_param` decides the order of the
--- operations. Two structs of the code have its states: `Slope` is what a round divides; `Progress` is a parameter and how many rounds may follow.
+-- operations. The code's struct `Slope` is what a round divides.
 use Rattle.std.specs.Prelude.{Bool, not, ◌||◌, cond, List, [], ◌∷◌, ◌++◌, ℕ, ◌+◌, ◌-◌, ◌*◌, length, ltb, Float}
 use Rattle.std.specs.Float.{binary64}
 use Rattle.std.specs.Float.Ieee.{lt, le, is_nan, of_bits}
@@ -20,7 +20,6 @@ use Rattle.samples.specs.Samples.{samples_of}
 use Rattle.distance_rule.specs.Distance.{distance_of}
 use Rattle.closest.specs.Nearest.{first_nearest}
 use Rattle.closest.specs.declared.Slope.{Slope}
-use Rattle.closest.specs.declared.Progress.{Progress}
 
 -- order k of those that stand x, y in turn
 abbrev pub order_in : List Float → ℕ → Vector Float
@@ -40,6 +39,11 @@ to c = at1 plain c.knots (c.n + 3)
 -- 16 samples for each knot pair that rises, and the domain's end
 abbrev pub samples_in : Shape Float → List Float
 samples_in c = samples_of c 16
+
+-- a parameter, and how many rounds may follow
+pub record Progress : Type 0 where
+  pub t : Float
+  pub left : ℕ
 
 -- a round is left
 abbrev pub unfinished : Progress → Bool

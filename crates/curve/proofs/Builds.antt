@@ -6,35 +6,41 @@ use Prim.Native.Nat.{ℕ, suc}
 use native.Mathlib.Nat.{suc-ne-zero}
 use lib.Dec.{T}
 use lib.Ieee.{Float}
+use Rattle.std.specs.Prelude.{Result, Ok, Err, IsErr, IsErrAnd}
 use Rattle.refusal.specs.declared.Refusal.{Refusal}
-use Rattle.refusal.specs.Refusals.{Row, row, first_of, refusal, none}
-use Rattle.refusal.proofs.Rows.{Passed, number_of, numbered, row-applies, row-passes, row_passed, no_rows, second_decides, first_decides, both_pass}
+use Rattle.refusal.specs.Refusals.{verdict, Verdict, Row, row, first_of, refusal, none}
+use Rattle.refusal.proofs.Rows.{handed_on, Passed, number_of, numbered, row-applies, row-passes, row_passed, no_rows, second_decides, first_decides, both_pass}
 use Rattle.outcome.proofs.Doors.{passes_true, passes_false}
 use Rattle.knots.specs.declared.Form.{Form}
 use Rattle.knots.specs.Rules.{knot_rules}
 use Rattle.shape.specs.Rules.{handle_rules}
 use Rattle.shape.proofs.Handles.{numbered-handles}
 use Rattle.curve.specs.declared.Curve.{Curve}
-use Rattle.curve.specs.declared.Built.{Built}
 use Rattle.curve.specs.Record.{empty_curve}
-use Rattle.curve.specs.Build.{building, room_rules, build_rules}
+use Rattle.curve.specs.Build.{build_of, Built, building, room_rules, build_rules}
 use Rattle.curve.specs.Making.{last_rule}
 
-abbrev pub unbuilt : Refusal → Built
+abbrev pub unbuilt : Verdict → Built
 unbuilt r = record { refusal = r; curve = empty_curve }
 
-abbrev pub made : Refusal → Curve → Built
+abbrev pub made : Verdict → Curve → Built
 made r c = record { refusal = r; curve = c }
+
+-- what `?` hands on of an answer: its refusal, without a curve
+pub handed_build : {A : Type 0} {x : Result A Refusal} {r : Refusal} → x ≡ Err r → (y : Result Curve Refusal) → IsErr y × IsErrAnd y (λ s. s ≡ r)
+    → build_of y ≡ unbuilt (verdict x)
+handed_build e (Ok b) h = absurd h.1
+handed_build e (Err s) h = ap unbuilt (handed_on {B = Curve} e (Err s) h)
 
 module _ (rules : List Row) (c : Curve) where
   -- a rule applies, and none does
-  pub built_refused : {r : Refusal} → r ≡ first_of rules → (r.number ≡ 0 → ⊥) → unbuilt r ≡ building rules c
+  pub built_refused : {r : Verdict} → r ≡ first_of rules → (r.number ≡ 0 → ⊥) → unbuilt r ≡ building rules c
   unfolding building
   built_refused e h = rw (passes_false rules (λ z. h (number_of e ∙ z))) (ap unbuilt e)
 
-  pub built_made : {r : Refusal} → r ≡ first_of rules → r.number ≡ 0 → made r c ≡ building rules c
+  pub built_made : {r : Verdict} → r ≡ first_of rules → r.number ≡ 0 → made r c ≡ building rules c
   unfolding building
-  built_made e z = rw (passes_true rules (number_of (sym e) ∙ z)) (ap (λ (x : Refusal). made x c) e)
+  built_made e z = rw (passes_true rules (number_of (sym e) ∙ z)) (ap (λ (x : Verdict). made x c) e)
 
   -- what was built has the refusal of its rules; it is empty where one applies
   pub built-refusal : {b : Built} → b ≡ building rules c → b.refusal ≡ first_of rules
@@ -73,11 +79,11 @@ module _ {c : Curve} where
   pass_made n {b} {rs} h m = same_making (row-passes (row n b) rs h) m
 
   -- no row is left
-  pub done_made : {r : Refusal} → r ≡ none → Makes [] c (made r c)
+  pub done_made : {r : Verdict} → r ≡ none → Makes [] c (made r c)
   done_made e = record { is = built_made [] c (e ∙ sym no_rows) (number_of e) }
 
   -- other rules come first
-  pub refused_made : (rules rs : List Row) {r : Refusal} {x : Built} → r ≡ first_of rules → (r.number ≡ 0 → ⊥) → x ≡ unbuilt r → Makes (rules ++ rs) c x
+  pub refused_made : (rules rs : List Row) {r : Verdict} {x : Built} → r ≡ first_of rules → (r.number ≡ 0 → ⊥) → x ≡ unbuilt r → Makes (rules ++ rs) c x
   refused_made rules rs e h q = record { is = q ∙ built_refused _ c (e ∙ sym (first_decides rules rs (λ z. h (number_of e ∙ z)))) h }
 
   pub after_made : (rules : List Row) {rs : List Row} {x : Built} → T (numbered rules) → Passed rules → Makes rs c x → Makes (rules ++ rs) c x
@@ -91,7 +97,7 @@ numbered-room form coords given ks short = tt
 
 module _ (form : Form) (coords : List Float) (given : Bool) (ks : List Float) (short fine : Bool) where
   -- one of 1 to 14 applies
-  pub room_refused : {r : Refusal} → r ≡ first_of (room_rules form coords given ks short) → (r.number ≡ 0 → ⊥) → r ≡ first_of (build_rules form coords given ks short fine)
+  pub room_refused : {r : Verdict} → r ≡ first_of (room_rules form coords given ks short) → (r.number ≡ 0 → ⊥) → r ≡ first_of (build_rules form coords given ks short fine)
   unfolding build_rules
   room_refused e h = e ∙ sym (first_decides (room_rules form coords given ks short) _ (λ z. h (number_of e ∙ z)))
 
@@ -102,7 +108,7 @@ module _ (form : Form) (coords : List Float) (given : Bool) (ks : List Float) (s
   build_left c z e = makes (after_made (room_rules form coords given ks short) (numbered-room form coords given ks short) z (record { is = e }))
 
 -- the rules 1 to 14
-module _ (form : Form) (coords : List Float) (given : Bool) (ks : List Float) (short : Bool) {r : Refusal} (known : r ≡ first_of (handle_rules form coords given ks)) where
+module _ (form : Form) (coords : List Float) (given : Bool) (ks : List Float) (short : Bool) {r : Verdict} (known : r ≡ first_of (handle_rules form coords given ks)) where
   pub handles_refused : (r.number ≡ 0 → ⊥) → r ≡ first_of (room_rules form coords given ks short)
   handles_refused h = known ∙ sym (first_decides _ _ (λ z. h (number_of known ∙ z)))
 

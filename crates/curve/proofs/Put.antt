@@ -13,9 +13,8 @@ use Rattle.buffer.specs.Pasted.{pasted}
 use Rattle.outcome.specs.Outcome.{answering}
 use Rattle.outcome.proofs.Doors.{put_all}
 use Rattle.curve.specs.declared.Curve.{Curve}
-use Rattle.curve.specs.declared.Built.{Built}
 use Rattle.curve.specs.Record.{empty_curve}
-use Rattle.curve.specs.Build.{building}
+use Rattle.curve.specs.Build.{Built, building}
 
 -- none of the numbers is put
 put_none : (numbers out : List Float) → pasted numbers 0 out 0 ≡ out

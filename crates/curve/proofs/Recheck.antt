@@ -9,8 +9,7 @@ use lib.Ieee.{Float, binary64, fits, of_bits}
 use lib.Ieee.Bits.{of_bits-to_bits}
 use lib.Ieee.Scale.{finite}
 use Rattle.meaning.proofs.Tests.{and_left, and_right}
-use Rattle.refusal.specs.declared.Refusal.{Refusal}
-use Rattle.refusal.specs.Refusals.{row, first_of, refusal}
+use Rattle.refusal.specs.Refusals.{Verdict, row, first_of, refusal}
 use Rattle.refusal.proofs.Rows.{Passed, number_of, numbered, row-applies, row-passes, row_passed, no_rows, second_decides, first_decides, both_pass, passed_none}
 use Rattle.knots.specs.Rules.{knot_rules}
 use Rattle.shape.specs.Shape.{Shape}
@@ -40,7 +39,7 @@ module _ (k : ℕ) (s : Shape Float) (length : Float) where
   unfolding record_rules shape_rules knot_rules
   numbered_record = tt
 
-  module _ (wild : Bool) {r : Refusal} (known : r ≡ first_of (shape_rules k s)) where
+  module _ (wild : Bool) {r : Verdict} (known : r ≡ first_of (shape_rules k s)) where
     -- where 11 for a point stands
     between : with11 wild (record_rules k s length) ≡ shape_rules k s ++ (row 11 wild ∷ row 17 (not (is_sum length (length_in s))) ∷ [])
     unfolding record_rules shape_rules knot_rules

@@ -3,8 +3,7 @@ use Rattle.std.specs.Prelude.{Bool, not, ◌&&◌, List, [], ◌∷◌}
 use Rattle.std.specs.Float.Ieee.Scale.{finite}
 use Rattle.refusal.specs.Refusals.{Row, row}
 use Rattle.curve.specs.declared.Curve.{Curve}
-use Rattle.curve.specs.declared.Built.{Built}
-use Rattle.curve.specs.Build.{building}
+use Rattle.curve.specs.Build.{Built, building}
 
 -- 15 alone is left, where `fine` tells whether every stored number is finite
 abbrev pub last_rule : Bool → List Row

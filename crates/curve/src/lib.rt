@@ -2,15 +2,20 @@
 #![tactic(auto)]
 
 ghost use Rattle.std.specs.Prelude.{◌≡◌};
-ghost use Rattle.refusal.specs.Refusals.{first_of};
+ghost use Rattle.refusal.specs.Refusals.{first_of, verdict};
+ghost use Rattle.shape.specs.Spline.{shape_of};
 ghost use Rattle.shape.specs.Offered.{with11};
-ghost use Rattle.curve.specs.Record.{is_sum, record_rules, empty_curve, curve_over};
+ghost use Rattle.curve.specs.Record.{is_sum, shape_in, by_record, curve_over};
+ghost use Rattle.curve.specs.Build.{build_of};
 ghost use Rattle.curve.specs.Making.{measuring};
 
 use refusal::Refusal;
+use rooms::Rooms;
+use shape::Spline;
 
 // A cubic: `points` control points and `knot_count` knots, four more, and the length of its control polygon. What stands past the counts is +0.0
 // in a curve that was built, and not read.
+// Stays: there is no heap, and a record holds whatever its maker wrote, so that its counts stand beside its arrays.
 #[derive(Clone, Copy)]
 pub struct Curve {
     pub points: usize,
@@ -20,37 +25,6 @@ pub struct Curve {
     pub ys: [f64; 66],
     pub knots: [f64; 70],
 }
-
-// What a build answers: the curve, or a refusal and the empty curve.
-#[derive(Clone, Copy)]
-pub struct Built {
-    pub refusal: Refusal,
-    pub curve: Curve,
-}
-
-// Counts 0, the length and all entries +0.0.
-fn empty() -> Curve
-    ensures { result ≡ empty_curve }
-{
-    Curve {
-        points: 0,
-        knot_count: 0,
-        length: 0.0,
-        xs: [0.0; 66],
-        ys: [0.0; 66],
-        knots: [0.0; 70],
-    }
-}
-
-// A refusal, with the empty curve.
-pub fn refused(refusal: Refusal) -> Built
-    ensures { result ≡ record { refusal = refusal; curve = empty_curve } }
-{
-    let curve = empty();
-    Built { refusal, curve }
-}
-
-// ---- the check
 
 // Whether a stored length is finite and has the bits of this sum.
 pub fn is_sum(length: f64, sum: f64) -> bool
@@ -62,70 +36,69 @@ pub fn is_sum(length: f64, sum: f64) -> bool
     )
 }
 
-// Why a record with n control points, k knots and this length is refused by the rules 2 to 11 and 17, if it is. `wild` tells whether a point that the
-// question has of its own is not finite, which is 11, too.
-pub fn check_with<'a>(
-    n: usize,
-    k: usize,
-    length: f64,
-    xs: &'a [f64; 66],
-    ys: &'a [f64; 66],
-    u: &'a [f64; 70],
-    wild: bool,
-) -> Refusal
-    ensures { result ≡ first_of (with11 wild
-        (record_rules k (record { n = n; xs = xs.now; ys = ys.now; knots = u.now }) length)) }
-{
-    let r = shape::check(n, k, xs, ys, u);
-    if r.number != 0 {
-        return r;
+impl Curve {
+    // Its control points and knots, lent to be read.
+    pub fn spline(&self) -> Spline<'_>
+        ensures { shape_of result ≡ shape_in self.now }
+    {
+        Spline {
+            n: self.points,
+            xs: &self.xs,
+            ys: &self.ys,
+            knots: &self.knots,
+        }
     }
-    if wild {
-        return refusal::by(11);
-    }
-    if !is_sum(length, polygon::length(n, xs, ys)) {
-        return refusal::by(17);
-    }
-    r
-}
 
-// The same where the question has no point of its own.
-pub fn check<'a>(
-    n: usize,
-    k: usize,
-    length: f64,
-    xs: &'a [f64; 66],
-    ys: &'a [f64; 66],
-    u: &'a [f64; 70],
-) -> Refusal
-    ensures { result
-        ≡ first_of (record_rules k (record { n = n; xs = xs.now; ys = ys.now; knots = u.now }) length) }
-{
-    check_with(n, k, length, xs, ys, u, false)
-}
-
-// ---- what builds have in common
-
-// The curve of these control points and knots, with its length, or 15 where that is not finite. `fine` tells whether all else that is stored is.
-pub fn measured(points: usize, xs: [f64; 66], ys: [f64; 66], knots: [f64; 70], fine: bool) -> Built
-    ensures { result ≡ measuring fine (curve_over points knots xs ys) }
-{
-    if !fine {
-        return refused(refusal::by(15));
+    // Why it is refused by the rules 2 to 11 and 17, if it is. `wild` tells whether a point that the question has of its own is not finite, which is
+    // 11, too.
+    pub fn check_with(&self, wild: bool) -> Result<(), Refusal>
+        ensures { verdict result ≡ first_of (with11 wild (by_record self.now).rules) }
+    {
+        shape::check(self.knot_count, self.spline())?;
+        if wild {
+            return Err(Refusal::WildCoordinate);
+        }
+        if !is_sum(
+            self.length,
+            polygon::length(self.points, &self.xs, &self.ys),
+        ) {
+            return Err(Refusal::RecordMismatch);
+        }
+        Ok(())
     }
-    let length = polygon::length(points, &xs, &ys);
-    if !number::is_finite(length) {
-        return refused(refusal::by(15));
+
+    // The same where the question has no point of its own.
+    pub fn check(&self) -> Result<(), Refusal>
+        ensures { verdict result ≡ first_of (by_record self.now).rules }
+    {
+        self.check_with(false)
     }
-    Built {
-        refusal: refusal::by(0),
-        curve: Curve {
+
+    // The curve of control points and knots in their rooms, with its length, or 15 where that is not finite. `fine` tells whether all else that is
+    // stored is.
+    pub fn measured(rooms: Rooms, fine: bool) -> Result<Curve, Refusal>
+        ensures { build_of result ≡ measuring fine (curve_over rooms.points rooms.knots rooms.xs rooms.ys) }
+    {
+        let Rooms {
+            points,
+            xs,
+            ys,
+            knots,
+        } = rooms;
+        if !fine {
+            return Err(Refusal::WildOutcome);
+        }
+        let length = polygon::length(points, &xs, &ys);
+        if !number::is_finite(length) {
+            return Err(Refusal::WildOutcome);
+        }
+        Ok(Curve {
             points,
             knot_count: points + 4,
             length,
             xs,
             ys,
             knots,
-        },
+        })
     }
 }

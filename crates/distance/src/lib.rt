@@ -54,6 +54,7 @@ fn scaled(x: f64, j: u64) -> f64
 // ---- the length of a vector
 
 // The larger of two sizes.
+// Stays: what is asked of it is said in whole units, which the contract of std's `max` has no word for.
 fn larger(x: f64, y: f64) -> f64
     requires { T (unsigned x) × T (unsigned y) }
     ensures { T (unsigned result) × (in_units result ≡ max (in_units x) (in_units y)) }
@@ -85,10 +86,10 @@ fn length(x: f64, y: f64, m: f64) -> f64
 
 // The square of the distance of a and b, where it is neither too small nor too large: who looks for the least distance asks it first.
 // Corresponds to spline.rs: the closure dist of closest_param, without its root.
-pub fn square(a: P2, b: P2) -> f64
+pub fn square(a: P2<f64>, b: P2<f64>) -> f64
     ensures { result ≡ square_of (view a) (view b) }
 {
-    let d = a.sub(b);
+    let d = a - b;
     d.dot(d)
 }
 
@@ -105,7 +106,7 @@ pub fn limit(s: f64) -> f64
 
 // The distance of a and b. Nearly always it is the root of the square, and nothing needs to be scaled.
 // Corresponds to spline.rs: the closure dist of closest_param, with this rule in place of hypot.
-pub fn distance(a: P2, b: P2) -> f64
+pub fn distance(a: P2<f64>, b: P2<f64>) -> f64
     ensures { result ≡ distance_of (view a) (view b) }
 {
     let s = square(a, b);
@@ -114,7 +115,7 @@ pub fn distance(a: P2, b: P2) -> f64
     if number::both(least <= s, s < infinite) {
         return root::root(s);
     }
-    let d = a.sub(b);
+    let d = a - b;
     if number::both(number::is_finite(d.x), number::is_finite(d.y)) {
         let x = number::size(d.x);
         let y = number::size(d.y);

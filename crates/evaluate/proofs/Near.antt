@@ -1,15 +1,13 @@
 -- The point by an index that was tried for its span: among knots that do not fall it is the first of the orders, whatever the index. Assumes nothing.
 use mathlib.Core.Path.{◌≡◌, refl, sym, ap, ◌∙◌}
 use mathlib.Core.Bool.{true, false}
-use mathlib.Core.List.{List, []}
-use Prim.Native.Nat.{ℕ, ◌-◌, ◌≤◌}
+use mathlib.Core.List.{List}
+use Prim.Native.Nat.{ℕ, ◌≤◌}
 use native.Mathlib.Omega.{arith}
-use lib.ListN.{get_or}
 use lib.Ieee.{Float}
 use Rattle.meaning.specs.Scalar.{plain}
 use Rattle.meaning.specs.Loops.{turns}
 use Rattle.meaning.proofs.Tests.{by_two}
-use Rattle.basis.specs.Basis.{basis_of}
 use Rattle.knots.specs.Rules.{NotFalling}
 use Rattle.span.specs.Within.{within}
 use Rattle.span.proofs.Spans.{counted-span}
@@ -17,19 +15,17 @@ use Rattle.span.proofs.Tried.{tried_span, not_before, not_past}
 use Rattle.plane.specs.Vector.{Vector}
 use Rattle.shape.specs.Shape.{Shape}
 use Rattle.evaluate.specs.Point.{placed, inside_of, orders_of}
-use Rattle.evaluate.specs.Piece.{found, four_of, on_span}
+use Rattle.evaluate.specs.Piece.{found, piece_of, on_piece}
 use Rattle.evaluate.specs.Near.{point_in, point_near}
-use Rattle.evaluate.proofs.Pieces.{weighted-row}
+use Rattle.evaluate.proofs.Pieces.{on_window_is}
 use Rattle.evaluate.proofs.Places.{in_domain}
 
 -- ---- what the code finds
 
 module _ (c : Shape Float) (t : Float) (i : ℕ) where
-  pub near_span : within c.knots c.n t i ≡ true → on_span plain c.knots i (four_of plain c.xs (i - 3) 1) (four_of plain c.ys (i - 3) 1) t 0 0 ≡ point_near c t i
-  unfolding point_near on_span inside_of
-  near_span h =
-      let row = get_or (basis_of plain c.knots i t 0) 0 [] in
-      (λ k. record { x = weighted-row plain c.xs i row k; y = weighted-row plain c.ys i row k }) ∙ rw h
+  pub near_span : 3 ≤ i → i ≤ 65 → within c.knots c.n t i ≡ true → on_piece plain (piece_of plain c i) t 0 0 ≡ point_near c t i
+  unfolding point_near
+  near_span g q h = (λ k. on_window_is plain (λ x. i) c t 0 i refl g q k 0) ∙ rw h
 
   pub near_other : within c.knots c.n t i ≡ false → {room : List Float} → room ≡ orders_of plain (found c) c t 0 → point_in room ≡ point_near c t i
   unfolding point_near

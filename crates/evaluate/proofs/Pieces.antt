@@ -2,19 +2,29 @@
 use mathlib.Core.Path.{◌≡◌, refl, sym, ap, ◌∙◌}
 use mathlib.Core.List.{List, [], ◌∷◌}
 use Prim.Native.Nat.{ℕ, ◌+◌, ◌-◌, ◌*◌, ◌≤◌, ◌<◌}
-use native.Mathlib.Nat.{zero-add}
 use native.Mathlib.Omega.{arith}
-use lib.ListN.{get_or}
+use Rattle.std.specs.List.{fold, zip}
+use lib.ListN.{get_or, length}
+use lib.Seq.{ext_get_or}
 use lib.Ieee.{Float}
-use Rattle.meaning.specs.Scalar.{Ops, plain}
+use Rattle.meaning.specs.Scalar.{Ops, plain, zero64}
 use Rattle.meaning.specs.Loops.{turns}
+use Rattle.meaning.specs.Search.{listed}
 use Rattle.meaning.specs.Table.{at1}
+use Rattle.meaning.proofs.Filling.{length-listed, nth_listed}
 use Rattle.basis.specs.Basis.{derivatives_of, basis_of, window}
 use Rattle.basis.proofs.Window.{basis_window}
 use Rattle.shape.specs.Shape.{Shape, every_other}
 use Rattle.shape.proofs.Sound.{other_at}
 use Rattle.evaluate.specs.Point.{weighted, combined, straight_on, inside_of, beyond_of}
 use Rattle.evaluate.specs.Piece.{four_of, of_four, around, on_span, on_window}
+
+-- ---- lists of a known length
+
+entries : {A : Type 0} (z : A) (l : List A) (n : ℕ) → length l ≡ n → l ≡ listed 0 n (λ i. get_or l i z)
+entries z l n h =
+    ext_get_or z l (listed 0 n (λ i. get_or l i z)) (h ∙ sym (length-listed 0 n (λ i. get_or l i z)))
+    (λ i g. sym (nth_listed n i (λ i. get_or l i z) z (omega arith)))
 
 -- ---- the knots
 
@@ -37,9 +47,16 @@ around_basis us vs i t nd g h e =
 -- ---- the control points
 
 module _ {A : Type 0} (o : Ops A) where
-  -- the loop's indices and the definition's
-  pub weigh_turn : (a row : List A) (j : ℕ) (s : A) → o.plus s (o.times (at1 o a j) (at1 o row j)) ≡ o.plus s (o.times (at1 o a (3 - 3 + j)) (at1 o row j))
-  weigh_turn a row j s = ap (λ (k : ℕ). o.plus s (o.times (at1 o a k) (at1 o row j))) (sym (zero-add j))
+  -- a turn of the code's fold over control points and basis values side by side, and what it comes to
+  abbrev pub add_product : A → A × A → A
+  add_product s p = o.plus s (o.times p.0 p.1)
+
+  pub weighted_zip : (a row : List A) {s : A} → s ≡ o.cst zero64 → length a ≡ 4 → length row ≡ 4 → fold add_product s (zip a row) ≡ weighted o a 3 row
+  unfolding weighted turns listed
+  weighted_zip a row e h k =
+      let p = entries o.off a 4 h in
+      let q = entries o.off row 4 k in
+      (λ i. fold add_product (e i) (zip (p i) (q i))) ∙ sym (λ i. weighted o (p i) 3 (q i))
 
   weighted-four : (cs : List A) (i : ℕ) {a b c d : A} → a ≡ at1 o cs (i - 3 + 0) → b ≡ at1 o cs (i - 3 + 1) → c ≡ at1 o cs (i - 3 + 2)
       → d ≡ at1 o cs (i - 3 + 3) → (row : List A) → weighted o (a ∷ b ∷ c ∷ d ∷ []) 3 row ≡ weighted o cs i row
@@ -83,12 +100,18 @@ module _ {A : Type 0} (o : Ops A) (sp : Float → ℕ) (c : Shape A) where
   unfolding on_span
   on_span_is t nd us i j xs ys e b p q = λ h k. four_is t nd _ j xs ys k e b p q h
 
-  -- the same from the window of span i, and its four control points
+  -- the same from the window of its six knots
+  pub on_window_reads : (t : A) (nd : ℕ) (w : List A) (i : ℕ) (xs ys : List A) → w ≡ window o c.knots i → i ≡ sp (o.val t) → 3 ≤ i → i ≤ 65
+      → ((row : List A) → weighted o xs 3 row ≡ weighted o c.xs i row) → ((row : List A) → weighted o ys 3 row ≡ weighted o c.ys i row)
+      → on_window o w xs ys t nd ≡ inside_of o sp c t nd
+  unfolding on_window
+  on_window_reads t nd w i xs ys f e g h p q =
+      λ l k. four_is t nd _ i xs ys k e (ap (λ (u : List A). derivatives_of o u 2 t nd) f ∙ basis_window o c.knots i t nd g h) p q l
+
+  -- and from its four control points, too
   pub on_window_is : (t : A) (nd i : ℕ) → i ≡ sp (o.val t) → 3 ≤ i → i ≤ 65
       → on_window o (window o c.knots i) (four_of o c.xs (i - 3) 1) (four_of o c.ys (i - 3) 1) t nd ≡ inside_of o sp c t nd
-  unfolding on_window
-  on_window_is t nd i e g h =
-      λ l k. four_is t nd _ i _ _ k e (basis_window o c.knots i t nd g h) (weighted-row o c.xs i) (weighted-row o c.ys i) l
+  on_window_is t nd i e g h = on_window_reads t nd _ i _ _ refl e g h (weighted-row o c.xs i) (weighted-row o c.ys i)
 
   -- and straight on from the window of the span of e
   pub from_window_is : (e t : A) (i : ℕ) → i ≡ sp (o.val e) → 3 ≤ i → i ≤ 65

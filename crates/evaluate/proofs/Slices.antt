@@ -1,22 +1,21 @@
 -- A curve in slices: its knots and control points, read in place, are those of its shape. Assumes nothing.
 use mathlib.Core.Path.{◌≡◌, sym, ap, ◌∙◌}
-use mathlib.Core.Bool.{true, false}
-use mathlib.Core.List.{List}
+use mathlib.Core.List.{List, [], ◌∷◌}
 use Prim.Native.Nat.{ℕ, ◌+◌, ◌-◌, ◌*◌, ◌≤◌, ◌<◌}
 use native.Mathlib.Omega.{arith}
 use borrow.Author.Tests.{eq-eqb, ne_eqb}
 use lib.ListN.{length, take, replicate, length-take}
-use lib.Ieee.{Float, lt}
+use lib.Ieee.{Float}
 use Rattle.meaning.specs.Scalar.{plain, zero64}
 use Rattle.meaning.specs.Table.{at1}
+use Rattle.basis.specs.Basis.{window}
 use Rattle.span.specs.Counting.{counted_of}
 use Rattle.span.proofs.Spans.{same_counted}
 use Rattle.shape.specs.Shape.{Shape, points_in, slice_shape}
 use Rattle.shape.proofs.Handles.{given_front, given-at}
-use Rattle.evaluate.specs.Point.{placed, inside_of, beyond_of, orders_of}
-use Rattle.evaluate.specs.Piece.{found, four_of, around, on_span, Counted, slice_orders}
-use Rattle.evaluate.proofs.Places.{before-domain, past-domain, in_domain}
-use Rattle.evaluate.proofs.Pieces.{around_basis, weighted_others, on_span_is}
+use Rattle.evaluate.specs.Point.{placed, inside_of, orders_of}
+use Rattle.evaluate.specs.Piece.{found, four_of, around, on_span, on_window, Counted, slice_orders}
+use Rattle.evaluate.proofs.Pieces.{around_basis, weighted_others, on_span_is, on_window_reads}
 
 -- ---- by the number of knots
 
@@ -48,6 +47,16 @@ module _ (coords ks : List Float) (w : Counted coords ks) where
   span-found t = same_counted ks c.knots c.n t (λ i h. sym (knot-at i (omega arith))) w.four w.room (omega (arith, w.long)) knots_reach
 
   -- what the code reads of span i: the knots around it, x from a on, y from b on
+  pub slices_read : (t : Float) (nd i a b : ℕ) → i ≡ counted_of ks c.n t → 3 ≤ i → i < c.n → a ≡ 2 * (i - 3) → b ≡ 2 * (i - 3) + 1
+      → on_window plain (window plain ks i) (four_of plain coords a 2) (four_of plain coords b 2) t nd ≡ inside_of plain (found c) c t nd
+  slices_read t nd i a b e g h p q =
+      let r = w.room in
+      let at : (k : ℕ) → k < 6 → at1 plain ks (i - 2 + k) ≡ at1 plain c.knots (i - 2 + k) = λ k l. sym (knot-at (i - 2 + k) (omega arith)) in
+      on_window_reads plain (found c) c t nd (window plain ks i) i (four_of plain coords a 2) (four_of plain coords b 2)
+      (λ j. at 0 (omega arith) j ∷ at 1 (omega arith) j ∷ at 2 (omega arith) j ∷ at 3 (omega arith) j ∷ at 4 (omega arith) j ∷ at 5 (omega arith) j ∷ [])
+      (e ∙ span-found t) g (omega arith) (weighted_others coords c.n 0 a i r g h (omega arith)) (weighted_others coords c.n 1 b i r g h q)
+
+  -- the same where the knots stand in a room, in which that span is the third
   pub slices_on_span : (t : Float) (nd i a b m : ℕ) → i ≡ counted_of ks c.n t → 3 ≤ i → i < c.n → a ≡ 2 * (i - 3) → b ≡ 2 * (i - 3) + 1
       → placed plain m (on_span plain (around ks i) 3 (four_of plain coords a 2) (four_of plain coords b 2) t nd)
       ≡ placed plain m (inside_of plain (found c) c t nd)
@@ -58,29 +67,9 @@ module _ (coords ks : List Float) (w : Counted coords ks) where
       (around_basis ks c.knots i t nd g (omega arith) (λ k l. sym (knot-at (i - 2 + k) (omega arith))))
       (weighted_others coords c.n 0 a i r g h (omega arith)) (weighted_others coords c.n 1 b i r g h q))
 
-  -- before the domain, past it, in it
-  module _ (t : Float) (nd : ℕ) (q : nd ≤ 4) where
-    first : at1 plain c.knots 0 ≡ at1 plain ks 0
-    first = knot-at 0 (omega arith)
+  -- the ends of its domain
+  pub first_knot : at1 plain ks 0 ≡ at1 plain c.knots 0
+  first_knot = sym (knot-at 0 (omega arith))
 
-    last : at1 plain c.knots (c.n + 3) ≡ at1 plain ks (c.n + 3)
-    last = knot-at (c.n + 3) (omega arith)
-
-    pub slices_before : lt t (at1 plain ks 0) ≡ true → placed plain (nd + 1) (beyond_of plain (found c) c (at1 plain ks 0) t) ≡ slice_orders coords ks t nd
-    slices_before e =
-        ap (λ (x : Float). placed plain (nd + 1) (beyond_of plain (found c) c x t)) (sym first)
-        ∙ before-domain plain (found c) c t nd w.four w.room q (ap (lt t) first ∙ e)
-        ∙ right-count coords ks t nd w.long
-
-    module _ (e : lt t (at1 plain ks 0) ≡ false) where
-      pub slices_past : lt (at1 plain ks (c.n + 3)) t ≡ true
-          → placed plain (nd + 1) (beyond_of plain (found c) c (at1 plain ks (c.n + 3)) t) ≡ slice_orders coords ks t nd
-      slices_past f =
-          ap (λ (x : Float). placed plain (nd + 1) (beyond_of plain (found c) c x t)) (sym last)
-          ∙ past-domain plain (found c) c t nd w.four w.room q (ap (lt t) first ∙ e) (ap (λ (x : Float). lt x t) last ∙ f)
-          ∙ right-count coords ks t nd w.long
-
-      pub slices_inside : lt (at1 plain ks (c.n + 3)) t ≡ false → placed plain (nd + 1) (inside_of plain (found c) c t nd) ≡ slice_orders coords ks t nd
-      slices_inside f =
-          in_domain plain (found c) c t nd w.four w.room q (ap (lt t) first ∙ e) (ap (λ (x : Float). lt x t) last ∙ f)
-          ∙ right-count coords ks t nd w.long
+  pub last_knot : at1 plain ks (c.n + 3) ≡ at1 plain c.knots (c.n + 3)
+  last_knot = sym (knot-at (c.n + 3) (omega arith))

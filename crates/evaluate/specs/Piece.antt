@@ -1,14 +1,15 @@
 -- Inner: how the code comes to a point, from what one span reads: its six knots and its four control points. Only private contracts cite this, and
 -- those of slices and of windows, which are asked past their rules.
-use Rattle.std.specs.Prelude.{◌≡◌, cond, List, [], ◌∷◌, ℕ, ◌+◌, ◌-◌, ◌*◌, ◌≤◌, eqb, length, get_or, set, replicate, Float}
+use Rattle.std.specs.Prelude.{◌≡◌, cond, Option, None, Some, List, [], ◌∷◌, ℕ, ◌+◌, ◌-◌, ◌*◌, ◌≤◌, eqb, length, get_or, set, replicate, Float}
 use Rattle.meaning.specs.Scalar.{Ops, plain, zero64}
 use Rattle.meaning.specs.Loops.{run}
 use Rattle.meaning.specs.Table.{at1}
 use Rattle.span.specs.Counting.{counted_of}
-use Rattle.basis.specs.Basis.{basis_of, derivatives_of}
+use Rattle.basis.specs.Basis.{basis_of, derivatives_of, window}
 use Rattle.plane.specs.Vector.{Vector}
 use Rattle.shape.specs.Shape.{Shape, points_in, slice_shape}
-use Rattle.evaluate.specs.Point.{weighted, orders_of}
+use Rattle.evaluate.specs.declared.Piece.{Piece}
+use Rattle.evaluate.specs.Point.{weighted, straight_on, orders_of}
 
 -- the span of a parameter, as the count finds it
 abbrev pub found : Shape Float → Float → ℕ
@@ -30,6 +31,18 @@ module _ {A : Type 0} (o : Ops A) where
   -- from the window of six knots
   unfoldable pub on_window : List A → List A → List A → A → ℕ → ℕ → Vector A
   on_window w xs ys t nd k = of_four xs ys (derivatives_of o w 2 t nd) k
+
+  -- what span i reads of a curve, and order k from it
+  abbrev pub piece_of : Shape A → ℕ → Piece A
+  piece_of c i = record { knots = window o c.knots i; xs = four_of c.xs (i - 3) 1; ys = four_of c.ys (i - 3) 1 }
+
+  abbrev pub on_piece : Piece A → A → ℕ → ℕ → Vector A
+  on_piece p t nd k = on_window p.knots p.xs p.ys t nd k
+
+  -- order k at t where f gives the orders in a domain: straight on from the end past which t lies, if it lies past one
+  abbrev pub by_end : Option A → (A → ℕ → ℕ → Vector A) → A → ℕ → ℕ → Vector A
+  by_end None f t nd k = f t nd k
+  by_end (Some e) f t nd k = straight_on o (f e 1) e t k
 
 -- the six knots from knot i - 2 on, at 1 to 6 of a room of 70: there span i is span 3
 unfoldable pub around : List Float → ℕ → List Float

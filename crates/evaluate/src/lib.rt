@@ -1,62 +1,178 @@
-// A point of a curve and its derivatives in plain doubles, over counts and arrays or over slices: the doors above check those. What one span
-// reads, six knots and four control points, is worked on by the same functions from either.
+// A point of a curve and its derivatives, from what one span reads: six knots and four control points. In plain doubles these are looked for in a
+// record's rooms or in slices, which the doors above check; on values with partials that is the caller's to do.
 #![tactic(auto)]
 
-ghost use Rattle.std.specs.Prelude.{◌≡◌, ◌+◌, ◌*◌, ◌≤◌, ◌<◌, length};
+ghost use Rattle.std.specs.Prelude.{◌≡◌, ◌↔◌, ◌+◌, ◌*◌, ◌≤◌, ◌<◌, IsTrue, length};
 ghost use Rattle.meaning.specs.Scalar.{plain};
-ghost use Rattle.span.specs.Counting.{counted_of};
+ghost use Rattle.partials.specs.Dual.{dual};
+ghost use Rattle.basis.specs.Basis.{window};
 ghost use Rattle.plane.specs.View.{view};
-ghost use Rattle.shape.specs.Shape.{slice_shape};
-ghost use Rattle.evaluate.specs.Point.{weighted, placed, inside_of, beyond_of, orders_of};
-ghost use Rattle.evaluate.specs.Straight.{straight_of, on_from};
-ghost use Rattle.evaluate.specs.Piece.{found, four_of, of_four, around, on_span, Counted, slice_orders};
+ghost use Rattle.shape.specs.Spline.{shape_of};
+ghost use Rattle.evaluate.specs.Point.{weighted, placed, straight_on, orders_of};
+ghost use Rattle.evaluate.specs.Straight.{straight_of, end_past};
+ghost use Rattle.evaluate.specs.Piece.{found, four_of, of_four, on_piece, by_end, piece_of, slice_orders};
 ghost use Rattle.evaluate.specs.Near.{point_near};
 
+use partials::Dv;
 use plane::P2;
+use scalar::Scalar;
+use shape::Spline;
 
-// ---- on one span
+// ---- one span
+
+// What a span reads of a curve: for span i the six knots from knot i - 2 to knot i + 3, and the control points i - 3 to i.
+#[derive(Clone, Copy)]
+pub struct Piece<S> {
+    pub knots: [S; 6],
+    pub xs: [S; 4],
+    pub ys: [S; 4],
+}
 
 // One coordinate of a point: four control points, each times its basis value, summed from +0.0.
-fn weigh(a: &[f64; 4], row: [f64; 4]) -> f64
-    ensures { result ≡ weighted plain a.now 3 row }
+fn weigh<S: Scalar>(a: &[S; 4], row: &[S; 4]) -> S
+    ensures { result ≡ weighted S.ops a.now 3 row.now }
 {
-    let mut s = 0.0;
-    for j in 0..4 {
-        s = s + a[j] * row[j];
-    }
-    s
+    a.iter()
+        .zip(row)
+        .fold(S::cst(0.0), |sum, (x, y)| sum.plus(x.times(*y)))
 }
 
-// Both coordinates of the orders 0 to nd, from the rows of the basis.
-fn combine<'a>(xs: &'a [f64; 4], ys: &'a [f64; 4], ders: [[f64; 4]; 5], nd: usize) -> [f64; 10]
-    requires { nd ≤ 4 }
-    ensures { result ≡ placed plain (nd + 1) (of_four plain xs.now ys.now ders) }
-{
-    let mut out = [0.0; 10];
-    let end = nd + 1;
-    for k in 0..end {
-        let row = ders[k];
-        out[2 * k] = weigh(xs, row);
-        out[2 * k + 1] = weigh(ys, row);
+impl<S: Scalar> Piece<S> {
+    // Both coordinates, for a row of basis values.
+    fn combine(&self, row: &[S; 4]) -> P2<S>
+        ensures { view result ≡ record {
+          x = weighted S.ops self.now.xs 3 row.now;
+          y = weighted S.ops self.now.ys 3 row.now;
+        } }
+    {
+        let x = weigh(&self.xs, row);
+        let y = weigh(&self.ys, row);
+        P2 { x, y }
     }
-    out
+
+    // The point at t.
+    // Corresponds to spline.rs: Curve::eval_span.
+    pub fn inside(&self, t: S) -> P2<S>
+        ensures { view result ≡ on_piece S.ops self.now t 0 0 }
+    {
+        let row = basis_straight::values(&self.knots, t);
+        self.combine(&row)
+    }
+
+    // The point and the tangent, from the rows of the basis.
+    fn tangent(&self, ders: &[[S; 4]; 5]) -> (P2<S>, P2<S>)
+        ensures point { view result.0 ≡ of_four S.ops self.now.xs self.now.ys ders.now 0 }
+        ensures tangent { view result.1 ≡ of_four S.ops self.now.xs self.now.ys ders.now 1 }
+    {
+        let p = self.combine(&ders[0]);
+        let d = self.combine(&ders[1]);
+        (p, d)
+    }
 }
 
-// The orders 0 to nd at t, from knots whose span is i and the four control points of that span.
-// Corresponds to spline.rs: Curve::eval_span.
-fn on_span<'a>(
-    u: &'a [f64; 70],
-    i: usize,
-    xs: &'a [f64; 4],
-    ys: &'a [f64; 4],
-    t: f64,
-    nd: usize,
-) -> [f64; 10]
-    requires { nd ≤ 4 }
-    ensures { result ≡ placed plain (nd + 1) (on_span plain u.now i xs.now ys.now t nd) }
+// ---- with partials
+
+impl Piece<Dv> {
+    // The point at t past the end e of the domain, straight on along the tangent at e; the piece is that of the span of e.
+    // Stays: of values with partials alone, since code over any scalar that calls `basis` would owe that its five rows fit in memory.
+    // Corresponds to spline.rs: Curve::eval.
+    pub fn beyond(&self, e: Dv, t: Dv) -> P2<Dv>
+        ensures { view result ≡ straight_on dual (on_piece dual self.now e 1) e t 0 }
+    {
+        let ders = derivatives::basis(&self.knots, e, 1);
+        let (p, d) = self.tangent(&ders);
+        p + d.scale(t - e)
+    }
+}
+
+// ---- in doubles
+
+// The point p alone, in the room for five orders.
+fn alone(p: P2<f64>) -> [f64; 10]
+    ensures { result ≡ placed plain 1 (λ k. view p) }
 {
-    let ders = basis_plain::basis(u, i, t, nd);
-    combine(xs, ys, ders, nd)
+    [p.x, p.y, 0.0, 0.0, 0.0, 0.0, 0.0, 0.0, 0.0, 0.0]
+}
+
+// The point p, then the tangent d, then zeros, as far as order nd.
+fn straight(p: P2<f64>, d: P2<f64>, nd: usize) -> [f64; 10]
+    requires { nd ≤ 4 }
+    ensures { result ≡ placed plain (nd + 1) (straight_of (view p) (view d)) }
+{
+    if nd == 0 {
+        return alone(p);
+    }
+    [p.x, p.y, d.x, d.y, 0.0, 0.0, 0.0, 0.0, 0.0, 0.0]
+}
+
+impl Piece<f64> {
+    // The orders 0 to nd at t, x and y in turn. For the point alone the basis's values are enough, which take a fraction of the time.
+    // Inlined where the piece is read, as is the next: from registers, a processor need not wait for what it has just stored.
+    // Corresponds to spline.rs: Curve::eval_span.
+    #[inline(always)]
+    fn orders(&self, t: f64, nd: usize) -> [f64; 10]
+        requires { nd ≤ 4 }
+        ensures { result ≡ placed plain (nd + 1) (on_piece plain self.now t nd) }
+    {
+        if nd == 0 {
+            return alone(self.inside(t));
+        }
+        let ders = derivatives::basis(&self.knots, t, nd);
+        let mut out = [0.0; 10];
+        for (k, row) in ders[..=nd].iter().enumerate() {
+            let p = self.combine(row);
+            out[2 * k] = p.x;
+            out[2 * k + 1] = p.y;
+        }
+        out
+    }
+
+    // The same, straight on from the end of the domain past which t lies, where it lies past one.
+    #[inline(always)]
+    fn orders_by(&self, end: Option<f64>, t: f64, nd: usize) -> [f64; 10]
+        requires { nd ≤ 4 }
+        ensures { result ≡ placed plain (nd + 1) (by_end plain end (on_piece plain self.now) t nd) }
+    {
+        match end {
+            None => self.orders(t, nd),
+            Some(e) => {
+                let ders = derivatives::basis(&self.knots, e, 1);
+                let (p, d) = self.tangent(&ders);
+                straight(p + d.scale(t - e), d, nd)
+            }
+        }
+    }
+}
+
+// ---- what is asked
+
+// Whether there are curves with n control points, and an order nd.
+fn in_range(n: usize, nd: usize) -> bool
+    ensures { IsTrue result ↔ (4 ≤ n) × (n ≤ 66) × (nd ≤ 4) }
+{
+    (4..=66).contains(&n) && nd <= 4
+}
+
+// The end past which t lies, of a domain from lo to hi.
+fn end_past(lo: f64, hi: f64, t: f64) -> Option<f64>
+    ensures { result ≡ end_past lo hi t }
+{
+    if t < lo {
+        return Some(lo);
+    }
+    if t > hi {
+        return Some(hi);
+    }
+    None
+}
+
+// The six knots that span i reads.
+fn six(u: &[f64], i: usize) -> [f64; 6]
+    requires fact_1 { 3 ≤ i }
+    requires fact_2 { i + 3 < length u.now }
+    ensures { result ≡ window plain u.now i }
+{
+    [u[i - 2], u[i - 1], u[i], u[i + 1], u[i + 2], u[i + 3]]
 }
 
 // Four numbers from index at on, step apart: control points in a row, or every second number.
@@ -67,202 +183,65 @@ fn four(a: &[f64], at: usize, step: usize) -> [f64; 4]
     [a[at], a[at + step], a[at + 2 * step], a[at + 3 * step]]
 }
 
-// The six knots that span i reads, in a room where it is span 3.
-fn window(u: &[f64], i: usize) -> [f64; 70]
-    requires fact_1 { 3 ≤ i }
-    requires fact_2 { i + 3 < length u.now }
-    ensures { result ≡ around u.now i }
+// ---- of a record's rooms
+
+// What span i reads.
+fn piece_at(spline: Spline, i: usize) -> Piece<f64>
+    requires { (3 ≤ i) × (i ≤ 65) }
+    ensures { result ≡ piece_of plain (shape_of spline.entry) i }
 {
-    let mut w = [0.0; 70];
-    for j in 0..6 {
-        w[j + 1] = u[i - 2 + j];
+    let Spline { xs, ys, knots, .. } = spline;
+    Piece {
+        knots: six(knots, i),
+        xs: four(xs, i - 3, 1),
+        ys: four(ys, i - 3, 1),
     }
-    w
 }
 
-// ---- past the ends
-
-// The point p, then the tangent d, then zeros, as far as order nd.
-fn straight(p: P2, d: P2, nd: usize) -> [f64; 10]
-    requires { nd ≤ 4 }
-    ensures { result ≡ placed plain (nd + 1) (straight_of (view p) (view d)) }
-{
-    let mut out = [0.0; 10];
-    out[0] = p.x;
-    out[1] = p.y;
-    if nd >= 1 {
-        out[2] = d.x;
-        out[3] = d.y;
-    }
-    out
-}
-
-// The orders 0 to nd past the end e of the domain, from the orders 0 and 1 there: straight on along the tangent.
-fn on_from(at: &[f64; 10], e: f64, t: f64, nd: usize) -> [f64; 10]
-    requires { nd ≤ 4 }
-    ensures { result ≡ placed plain (nd + 1) (on_from at.now e t) }
-{
-    let p = P2 { x: at[0], y: at[1] };
-    let d = P2 { x: at[2], y: at[3] };
-    straight(p.add(d.scale(t - e)), d, nd)
-}
-
-// ---- of arrays
-
-// The orders 0 to nd by the polynomial of t's span.
-fn inside<'a>(
-    u: &'a [f64; 70],
-    n: usize,
-    xs: &'a [f64; 66],
-    ys: &'a [f64; 66],
-    t: f64,
-    nd: usize,
-) -> [f64; 10]
-    requires { nd ≤ 4 }
-    ensures { result ≡ placed plain (nd + 1) (inside_of plain (counted_of u.now n)
-        (record { n = n; xs = xs.now; ys = ys.now; knots = u.now }) t nd) }
-{
-    let i = span::span(u, n, t);
-    let x = four(xs, i - 3, 1);
-    let y = four(ys, i - 3, 1);
-    on_span(u, i, &x, &y, t, nd)
-}
-
-// The orders 0 to nd past the end e of the domain.
-fn beyond<'a>(
-    u: &'a [f64; 70],
-    n: usize,
-    xs: &'a [f64; 66],
-    ys: &'a [f64; 66],
-    e: f64,
-    t: f64,
-    nd: usize,
-) -> [f64; 10]
-    requires { nd ≤ 4 }
-    ensures { result ≡ placed plain (nd + 1) (beyond_of plain (counted_of u.now n)
-        (record { n = n; xs = xs.now; ys = ys.now; knots = u.now }) e t) }
-{
-    let at = inside(u, n, xs, ys, e, 1);
-    on_from(&at, e, t, nd)
-}
-
-// The orders 0 to nd at t, x and y in turn, of the curve with n control points; zeros where n or nd is out of range.
+// The orders 0 to nd at t, x and y in turn; zeros where the count of control points or nd is out of range.
 // Corresponds to spline.rs: Curve::eval.
-pub fn orders<'a>(
-    u: &'a [f64; 70],
-    n: usize,
-    xs: &'a [f64; 66],
-    ys: &'a [f64; 66],
-    t: f64,
-    nd: usize,
-) -> [f64; 10]
-    ensures { result ≡ orders_of plain (counted_of u.now n)
-        (record { n = n; xs = xs.now; ys = ys.now; knots = u.now }) t nd }
+pub fn orders(spline: Spline, t: f64, nd: usize) -> [f64; 10]
+    ensures { result ≡ orders_of plain (found (shape_of spline.entry)) (shape_of spline.entry) t nd }
 {
-    if n < 4 {
+    let Spline { n, knots, .. } = spline;
+    if !in_range(n, nd) {
         return [0.0; 10];
     }
-    if n > 66 {
-        return [0.0; 10];
-    }
-    if nd > 4 {
-        return [0.0; 10];
-    }
-    let lo = u[0];
-    let hi = u[n + 3];
-    if t < lo {
-        return beyond(u, n, xs, ys, lo, t, nd);
-    }
-    if t > hi {
-        return beyond(u, n, xs, ys, hi, t, nd);
-    }
-    inside(u, n, xs, ys, t, nd)
-}
-
-// The point alone, from knots whose span is i and the four control points of that span.
-fn point_on<'a>(u: &'a [f64; 70], i: usize, xs: &'a [f64; 4], ys: &'a [f64; 4], t: f64) -> P2
-    ensures { view result ≡ on_span plain u.now i xs.now ys.now t 0 0 }
-{
-    let row = basis_plain::basis(u, i, t, 0)[0];
-    P2 {
-        x: weigh(xs, row),
-        y: weigh(ys, row),
-    }
+    let end = end_past(knots[0], knots[n + 3], t);
+    let i = span::span(knots, n, end.unwrap_or(t));
+    piece_at(spline, i).orders_by(end, t, nd)
 }
 
 // The point alone, for who asks at one parameter after the other: the span is i where t lies in it, so that none is looked for.
 // Corresponds to spline.rs: Curve::eval.
-pub fn point_near<'a>(
-    u: &'a [f64; 70],
-    n: usize,
-    xs: &'a [f64; 66],
-    ys: &'a [f64; 66],
-    t: f64,
-    i: usize,
-) -> P2
-    ensures { view result ≡ point_near (record { n = n; xs = xs.now; ys = ys.now; knots = u.now }) t i }
+pub fn point_near(spline: Spline, t: f64, i: usize) -> P2<f64>
+    ensures { view result ≡ point_near (shape_of spline.entry) t i }
 {
-    if span::within(u, n, t, i) {
-        let x = four(xs, i - 3, 1);
-        let y = four(ys, i - 3, 1);
-        return point_on(u, i, &x, &y, t);
+    let Spline { n, knots, .. } = spline;
+    if span::within(knots, n, t, i) {
+        return piece_at(spline, i).inside(t);
     }
-    let at = orders(u, n, xs, ys, t, 0);
+    let at = orders(spline, t, 0);
     P2 { x: at[0], y: at[1] }
 }
 
 // ---- of slices
-
-// The orders 0 to nd by the polynomial of t's span.
-fn inside_slices(knots: &[f64], coords: &[f64], t: f64, nd: usize) -> [f64; 10]
-    requires fact_1 { Counted coords.now knots.now }
-    requires fact_2 { nd ≤ 4 }
-    ensures { result ≡ placed plain (nd + 1) (inside_of plain (found (slice_shape coords.now knots.now))
-        (slice_shape coords.now knots.now) t nd) }
-{
-    let i = span::span(knots, coords.len() / 2, t);
-    let w = window(knots, i);
-    let at = 2 * (i - 3);
-    let x = four(coords, at, 2);
-    let y = four(coords, at + 1, 2);
-    on_span(&w, 3, &x, &y, t, nd)
-}
-
-// The orders 0 to nd past the end e of the domain.
-fn beyond_slices(knots: &[f64], coords: &[f64], e: f64, t: f64, nd: usize) -> [f64; 10]
-    requires fact_1 { Counted coords.now knots.now }
-    requires fact_2 { nd ≤ 4 }
-    ensures { result ≡ placed plain (nd + 1) (beyond_of plain (found (slice_shape coords.now knots.now))
-        (slice_shape coords.now knots.now) e t) }
-{
-    let at = inside_slices(knots, coords, e, 1);
-    on_from(&at, e, t, nd)
-}
 
 // The same as orders for control points x, y in turn and knots; zeros, too, where these are not four more than the points.
 pub fn orders_slices(knots: &[f64], coords: &[f64], t: f64, nd: usize) -> [f64; 10]
     ensures { result ≡ slice_orders coords.now knots.now t nd }
 {
     let n = coords.len() / 2;
-    if knots.len() != n + 4 {
+    if knots.len() != n + 4 || !in_range(n, nd) {
         return [0.0; 10];
     }
-    if n < 4 {
-        return [0.0; 10];
-    }
-    if n > 66 {
-        return [0.0; 10];
-    }
-    if nd > 4 {
-        return [0.0; 10];
-    }
-    let first = knots[0];
-    let last = knots[n + 3];
-    if t < first {
-        return beyond_slices(knots, coords, first, t, nd);
-    }
-    if t > last {
-        return beyond_slices(knots, coords, last, t, nd);
-    }
-    inside_slices(knots, coords, t, nd)
+    let end = end_past(knots[0], knots[n + 3], t);
+    let i = span::span(knots, n, end.unwrap_or(t));
+    let at = 2 * (i - 3);
+    let piece = Piece {
+        knots: six(knots, i),
+        xs: four(coords, at, 2),
+        ys: four(coords, at + 1, 2),
+    };
+    piece.orders_by(end, t, nd)
 }

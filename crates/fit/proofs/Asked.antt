@@ -8,8 +8,7 @@ use native.Mathlib.Omega.{arith}
 use borrow.Author.Tests.{ltb-false}
 use lib.Ieee.{Float}
 use lib.Ieee.Scale.{finite}
-use Rattle.refusal.specs.declared.Refusal.{Refusal}
-use Rattle.refusal.specs.Refusals.{first_of}
+use Rattle.refusal.specs.Refusals.{Verdict, first_of}
 use Rattle.refusal.proofs.Rows.{Passed, number_of, row_passed}
 use Rattle.knots.specs.declared.Form.TheVariants.{Fit}
 use Rattle.knots.specs.Rules.{knot_rules}
@@ -17,8 +16,7 @@ use Rattle.outcome.proofs.Doors.{passes_true, passes_false}
 use Rattle.shape.specs.Shape.{points_in}
 use Rattle.shape.specs.Rules.{handle_rules}
 use Rattle.shape.proofs.Handles.{handles_passed_knots}
-use Rattle.curve.specs.declared.Built.{Built}
-use Rattle.curve.specs.Build.{room_rules}
+use Rattle.curve.specs.Build.{Built, room_rules}
 use Rattle.curve.proofs.Builds.{unbuilt, built_refused, room_refused, build_left}
 use Rattle.fit.specs.Fit.{controls_for, curve_through, fit_fine, work_after, Making, making}
 use Rattle.fit.specs.Fitting.{work_for, fitting}
@@ -41,7 +39,7 @@ fit_room q given ks h =
 
 module _ (q : List Float) (given : Bool) (ks : List Float) (short : Bool) (work : List Float) where
   -- one of 1 to 14 applies
-  pub fit_refused : {b : Built} {r : Refusal} → b ≡ unbuilt r → r ≡ first_of (room_rules Fit q given ks short) → (r.number ≡ 0 → ⊥)
+  pub fit_refused : {b : Built} {r : Verdict} → b ≡ unbuilt r → r ≡ first_of (room_rules Fit q given ks short) → (r.number ≡ 0 → ⊥)
       → making b work ≡ fitting q given ks short work
   unfolding work_after
   fit_refused a e h =

@@ -6,6 +6,7 @@ use mathlib.Core.List.{List}
 use mathlib.Core.Logic.{◌⊎◌, inl, inr}
 use Prim.Native.Nat.{ℕ, zero, suc, ◌+◌, ◌-◌, ◌≤◌, ◌<◌, zero-le}
 use native.Mathlib.Nat.{add-zero}
+use native.Mathlib.Numerals.{add-one}
 use native.Mathlib.Omega.{arith}
 use borrow.Author.Tests.{lt-ltb, le-ltb, ltb-true, ltb-false, not-false}
 use lib.Dec.{T, ltb}
@@ -27,7 +28,7 @@ use Rattle.outcome.specs.Outcome.{some_wild}
 use Rattle.outcome.proofs.Wild.{each_finite}
 use Rattle.fit.specs.Parameters.{step_at, sum_of, parameter_at, knot_at, knots_by, fit_parameter, fit_knots}
 use Rattle.fit.proofs.Plus.{plus, root-plus, add_plus, div_plus, zero_least, sum_not_below, finite_over, over_no_nan, over-in_order, over_at_most_one, equal_same}
-use Rattle.fit.proofs.Sums.{sum_none, sum_turn, parameter_inner, parameter_last}
+use Rattle.fit.proofs.Sums.{sum_none, sum_next, parameter_inner, parameter_last}
 use Rattle.meaning.proofs.Filling.{nth_listed}
 
 -- every one of n parameters is below the next
@@ -55,7 +56,7 @@ module _ (st : ℕ → Float) (P : (i : ℕ) → T (plus (st i))) where
   sum k = sum_of plain st k
 
   sum_suc : (k : ℕ) → sum (suc k) ≡ add binary64 (sum k) (st k)
-  sum_suc k = let e : suc k - 1 ≡ k = omega arith in rw e at (sym (sum_turn plain st (suc k) (sum (suc k - 1)) (omega arith) refl))
+  sum_suc k = ap sum (sym (add-one k)) ∙ sym (sum_next plain st k refl refl)
 
   sum_plus : (k : ℕ) → T (plus (sum k))
   sum_plus zero = subst (λ (z : Float). T (plus z)) (sum_none plain st) zero_plus

@@ -1,16 +1,18 @@
 -- A row of the system from its six numbers: the others are +0.0, and finite. Assumes nothing.
 use mathlib.Core.Path.{◌≡◌, refl, sym, ap, ◌∙◌}
-use mathlib.Core.Bool.{Bool, true, false, not, ◌&&◌, cond}
+use mathlib.Core.Bool.{Bool, true, false, ◌&&◌, cond}
 use mathlib.Core.List.{List, [], ◌∷◌}
 use Prim.Native.Nat.{ℕ, zero, suc, ◌+◌, ◌-◌, ◌≤◌, ◌<◌}
 use native.Mathlib.Omega.{arith}
 use borrow.Author.Tests.{eqb-true, eqb-false, ne_eqb}
 use lib.Dec.{eqb}
 use lib.ListN.{length, get_or, set, replicate, length-set, length-replicate, get_or-replicate}
-use lib.Seq.{ext_get_or, get_or-set_same, get_or-set_other}
+use lib.Seq.{paste, paste-zero, paste-suc, ext_get_or, get_or-set_same, get_or-set_other}
+use native.Mathlib.Nat.{zero-add}
+use Rattle.std.specs.List.{list_all}
 use lib.Ieee.{Float, nan, of_bits}
 use lib.Ieee.Scale.{finite}
-use Rattle.meaning.specs.Scalar.{plain, zero64}
+use Rattle.meaning.specs.Scalar.{Ops, plain, zero64}
 use Rattle.meaning.specs.Table.{at1}
 use Rattle.meaning.specs.Search.{listed}
 use Rattle.meaning.specs.Loops.{turns}
@@ -18,10 +20,8 @@ use Rattle.meaning.proofs.Tests.{by_two}
 use Rattle.meaning.proofs.Filling.{length-listed, nth_listed}
 use Rattle.plane.specs.Vector.{Vector}
 use Rattle.solve.specs.Stored.{all_fine}
-use Rattle.outcome.specs.Outcome.{some_wild}
 use Rattle.fit.specs.System.{spread, with_sides}
 use Rattle.fit.specs.Stored.{four_put, sides_put, Stored}
-use Rattle.fit.proofs.Judged.{tame_list}
 use Rattle.fit.proofs.Spread.{column_is, elsewhere, sides_are}
 
 -- ---- a list by its entries
@@ -46,6 +46,16 @@ put_entries {n} {f} {l} j v h e =
           (λ t. let q = eqb-true k j t in rw t (rw q (get_or-set_same l j v nan (omega (arith, e.long)))))
           (λ t. rw t (get_or-set_other l j k v nan (eqb-false k j t) ∙ e.each k b));
     }
+
+-- a copy into a list, number by number
+pub copied : (n : ℕ) (four : List Float) (at : ℕ) (l : List Float) → n ≤ length four → at + n ≤ length l
+    → paste l at four n ≡ turns 0 n (λ j t. set t (at + j) (at1 plain four j)) l
+unfolding turns
+copied zero four at l h k = sym (paste-zero l at four)
+copied (suc n) four at l h k =
+    sym (paste-suc l at four n nan (omega arith) (omega arith))
+    ∙ ap (λ (t : List Float). set t (at + n) (at1 plain four n)) (copied n four at l (omega arith) (omega arith))
+    ∙ ap (λ (j : ℕ). set (turns 0 n (λ j t. set t (at + j) (at1 plain four j)) l) (at + j) (at1 plain four j)) (sym (zero-add n))
 
 -- ---- the row
 
@@ -111,6 +121,11 @@ unfolding all_fine of_bits
 fine-zeros zero = refl
 fine-zeros (suc n) = fine-zeros n
 
+pub all-fine : {A : Type 0} (o : Ops A) (l : List A) → list_all o.fine l ≡ all_fine o l
+unfolding all_fine
+all-fine o [] = refl
+all-fine o (x ∷ l) = ap (λ (b : Bool). o.fine x && b) (all-fine o l)
+
 and_swap : (a b c : Bool) → a && (b && c) ≡ b && (a && c)
 and_swap true b c = refl
 and_swap false true c = refl
@@ -152,12 +167,12 @@ module _ (four : List Float) (a m : ℕ) (b : Vector Float) (high : a + 3 < m) w
       (put_blank (a + 1) _ (omega arith) (omega arith) (put_blank (a + 0) _ (omega arith) (omega arith) none)))))
 
   -- all of it is finite where the six are
-  pub six-fine : all_fine plain (listed 0 (m + 2) (with_sides plain m (spread plain four (a + 3)) b)) ≡ not (some_wild (six_of four b) 6)
-  six-fine = ap (all_fine plain) (sym (six-row four a m b high)) ∙ six_blank.verdict ∙ tame_list (six_of four b) 6 refl
+  pub six-fine : all_fine plain (listed 0 (m + 2) (with_sides plain m (spread plain four (a + 3)) b)) ≡ all_fine plain (six_of four b)
+  six-fine = ap (all_fine plain) (sym (six-row four a m b high)) ∙ six_blank.verdict
 
 -- what a row of m + 2 numbers holds once it is cleared and the six are put, with the verdict on them
 pub six_stored : (four : List Float) (i m : ℕ) (b : Vector Float) → 3 ≤ i → i < m → {n : ℕ} {t₁ t₂ t₃ : List Float} {q : Bool} → n ≡ m + 2
-    → t₁ ≡ replicate n zero64 → t₂ ≡ four_put four (i - 3) t₁ → t₃ ≡ sides_put m b t₂ → q ≡ not (some_wild (six_of four b) 6)
+    → t₁ ≡ replicate n zero64 → t₂ ≡ four_put four (i - 3) t₁ → t₃ ≡ sides_put m b t₂ → q ≡ list_all finite (six_of four b)
     → Stored (listed 0 (m + 2) (with_sides plain m (spread plain four i) b)) t₃ q
 six_stored four i m b low high e clear put sides judged =
     let back : i - 3 + 3 ≡ i = omega arith in
@@ -165,5 +180,5 @@ six_stored four i m b low high e clear put sides judged =
     let row : ℕ → List Float = λ j. listed 0 (m + 2) (with_sides plain m (spread plain four j) b) in
     record {
       held = sides ∙ ap (sides_put m b) (put ∙ ap (four_put four (i - 3)) (clear ∙ ap (λ (n : ℕ). replicate n zero64) e)) ∙ six-row four (i - 3) m b room ∙ ap row back;
-      judged = judged ∙ sym (six-fine four (i - 3) m b room) ∙ ap (λ (j : ℕ). all_fine plain (row j)) back;
+      judged = judged ∙ all-fine plain (six_of four b) ∙ sym (six-fine four (i - 3) m b room) ∙ ap (λ (j : ℕ). all_fine plain (row j)) back;
     }

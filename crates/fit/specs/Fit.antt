@@ -8,9 +8,8 @@ use Rattle.solve.specs.Stored.{all_fine}
 use Rattle.solve.specs.Outcome.{Solution, work_of}
 use Rattle.shape.specs.Shape.{points_in}
 use Rattle.curve.specs.declared.Curve.{Curve}
-use Rattle.curve.specs.declared.Built.{Built}
 use Rattle.curve.specs.Record.{curve_over}
-use Rattle.curve.specs.Build.{room_rules}
+use Rattle.curve.specs.Build.{Built, room_rules}
 use Rattle.fit.specs.Parameters.{fit_knots}
 use Rattle.fit.specs.Through.{rows_over, solution_over, stored_over}
 

@@ -7,12 +7,11 @@ use Rattle.meaning.specs.Table.{at1}
 use Rattle.meaning.specs.Loops.{run}
 use Rattle.span.specs.Counting.{counted_of}
 use Rattle.plane.specs.Vector.{Vector}
-use Rattle.solve.specs.declared.Solved.{Solved}
 use Rattle.solve.specs.Rows.{flat, OfRows}
 use Rattle.solve.specs.Stored.{all_fine}
-use Rattle.solve.specs.Outcome.{work_of}
+use Rattle.solve.specs.Outcome.{Solution, work_of}
 use Rattle.outcome.specs.Outcome.{some_wild}
-use Rattle.curve.specs.declared.Built.{Built}
+use Rattle.curve.specs.Build.{Built}
 use Rattle.curve.specs.Record.{curve_over}
 use Rattle.curve.specs.Making.{measuring}
 use Rattle.fit.specs.System.{row_of, fit_row, fit_rows}
@@ -57,7 +56,7 @@ pub record StoredAll (us ps q : List Float) (n : ℕ) (w w' : List Float) (fine 
 -- ---- past the rules 1 to 14
 
 -- the curve of m control points that a solve answered, with the knots us and the verdict on the rows
-abbrev pub curve_with : ℕ → List Float → Bool → Solved → Built
+abbrev pub curve_with : ℕ → List Float → Bool → Solution Float → Built
 curve_with m us stored s = measuring (not (some_wild us 70) && (stored && s.fine)) (curve_over m us s.xs s.ys)
 
 -- the curve through the points q

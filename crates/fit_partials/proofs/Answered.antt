@@ -1,6 +1,6 @@
 -- The answer for a span, from the filled slices and their solve, and what the slices hold afterwards. Assumes nothing.
 use mathlib.Core.Path.{◌≡◌, refl, sym, ap, ◌∙◌}
-use mathlib.Core.Bool.{Bool, true, false, ◌&&◌, cond}
+use mathlib.Core.Bool.{Bool, true, false, ◌&&◌, cond, and_assoc}
 use mathlib.Core.List.{List, [], ◌∷◌, ◌++◌, flatten}
 use Prim.Native.Nat.{ℕ, zero, suc, ◌+◌, ◌-◌, ◌*◌, ◌≤◌, ◌<◌}
 use native.Mathlib.Nat.{zero-add, mul-le-mul_right}
@@ -13,7 +13,6 @@ use Rattle.meaning.specs.Scalar.{zero64}
 use Rattle.meaning.specs.Table.{at1}
 use Rattle.meaning.specs.Search.{listed}
 use Rattle.meaning.proofs.Tests.{by_two, and_left, and_right}
-use Rattle.meaning.proofs.Filling.{Filled}
 use Rattle.partials.specs.declared.Dv.{Dv}
 use Rattle.partials.specs.Dual.{cst_dv, dual}
 use Rattle.span.specs.Counting.{counted_of}
@@ -29,7 +28,7 @@ use Rattle.solve_partials.specs.Outcome as Solve
 use Rattle.fit.specs.Parameters.{knot_at, fit_parameter}
 use Rattle.fit.specs.Fit.{knots_through}
 use Rattle.fit_partials.specs.Variables.{variables_of}
-use Rattle.fit_partials.specs.Stored.{Laid, Room, found_fit_rows}
+use Rattle.fit_partials.specs.Stored.{Laid, Room, piece_of, found_fit_rows}
 use Rattle.fit_partials.specs.Through.{knots_with, solution_with, fine_with, no_piece, piece_through}
 use Rattle.fit_partials.specs.Through.{cells_for, able, piece_in, doubles_after, counts_after}
 use Rattle.fit_partials.proofs.Laid.{laid-rows}
@@ -68,7 +67,7 @@ solution_long m M h =
 -- ---- the answer
 
 module _ (q : List Float) (two : 2 ≤ points_in q) (few : points_in q ≤ 12) (ps ks : List Dv) (us : List Float)
-    (hp : Filled (fit_parameter dual (variables_of q) (points_in q)) dual.off 12 (points_in q) ps)
+    (hp : (k : ℕ) → k < points_in q → at1 dual ps k ≡ fit_parameter dual (variables_of q) (points_in q) k)
     (hk : ks ≡ listed 0 18 (knot_at dual (at1 dual ps) (points_in q))) (hu : us ≡ listed 0 18 (λ j. (at1 dual ks j).v))
     (c : ℕ) (w w₁ : List Float) (ns ns₁ : List ℕ) (room : Room c 0 (cells_for (length q)) w ns)
     (laid : Laid c 0 (cells_for (length q)) (at1 dual (flat (found_fit_rows ks us ps q (points_in q)) [])) w ns w₁ ns₁) where
@@ -108,15 +107,19 @@ module _ (q : List Float) (two : 2 ≤ points_in q) (few : points_in q ≤ 12) (
 
   module _ (t : Float) (i : ℕ) (s : Solution Dv) (stored fine : Bool) (hi : i ≡ counted_of us (n + 2) t)
       (hs : s ≡ Solve.four_of (i - 3) (Solve.solution_in (n + 2) c w₁ ns₁)) (hf : stored ≡ all_fine dual (flatten rows))
-      (h : fine ≡ (all_fine dual ks && (stored && s.fine))) where
+      (h : fine ≡ (all_fine dual ks && stored)) where
     solved_is : s ≡ Solve.four_of (i - 3) (solution_of dual (n + 2) rows)
     solved_is = hs ∙ ap (Solve.four_of (i - 3)) solution
 
-    fine_is : fine ≡ fine_with q
+    fine_is : (fine && s.fine) ≡ fine_with q
     unfolding Solve.four_of
-    fine_is = h ∙ (λ j. all_fine dual ks && (hf j && (solved_is j).fine)) ∙ verdict q two few ps ks us hp hk hu
+    fine_is =
+        ap (λ (b : Bool). b && s.fine) h
+        ∙ and_assoc (all_fine dual ks) stored s.fine
+        ∙ (λ j. all_fine dual ks && (hf j && (solved_is j).fine))
+        ∙ verdict q two few ps ks us hp hk hu
 
-    pub piece_is : cond fine (record { knots = window dual ks i; xs = s.xs; ys = s.ys; fine = true }) no_piece ≡ piece_through q t
+    pub piece_is : piece_of fine (window dual ks i) s ≡ piece_through q t
     unfolding piece_through Solve.four_of solution_with
     piece_is =
         rw fine_is

@@ -11,7 +11,6 @@ use lib.Ieee.{Float}
 use Rattle.meaning.specs.Scalar.{zero64, one64}
 use Rattle.meaning.specs.Table.{at1}
 use Rattle.meaning.specs.Search.{listed}
-use Rattle.meaning.proofs.Filling.{Filled}
 use Rattle.partials.specs.declared.Dv.{Dv}
 use Rattle.partials.specs.Dual.{var_dv, dual}
 use Rattle.solve.proofs.Lists.{turns_keep}
@@ -77,12 +76,12 @@ module _ (c : ℕ) where
         (chosen (Tidy c) (ltb k (n - 1)) _ _ (λ e. (tidy_kept c).over _ _ (sum_tidy k) (sum_tidy (n - 1))) (cst_tidy c one64))
 
     -- what the arrays of the code have
-    pub fit_tidy : (n : ℕ) (ks ps : List Dv) → 2 ≤ n → Filled (fit_parameter dual (variables_of q) n) dual.off 12 n ps
+    pub fit_tidy : (n : ℕ) (ks ps : List Dv) → 2 ≤ n → ((k : ℕ) → k < n → at1 dual ps k ≡ fit_parameter dual (variables_of q) n k)
         → ks ≡ listed 0 18 (knot_at dual (at1 dual ps) n)
         → ReadyFit c n ks ps q
     unfolding knot_at parameter_at
     fit_tidy n ks ps some hp hk =
-        let ready : (k : ℕ) → k < n → Tidy c (at1 dual ps k) = λ k l. subst (Tidy c) (sym (hp.same k l)) (parameter_tidy n k) in
+        let ready : (k : ℕ) → k < n → Tidy c (at1 dual ps k) = λ k l. subst (Tidy c) (sym (hp k l)) (parameter_tidy n k) in
         record {
           knots = λ i. subst (λ (l : List Dv). Tidy c (at1 dual l i)) (sym hk)
               (listed_keeps (Tidy c) dual.off 0 18 (knot_at dual (at1 dual ps) n) (off_tidy c)
@@ -91,7 +90,7 @@ module _ (c : ℕ) where
               (chosen (Tidy c) (ltb j (n + 2)) _ _ (λ e. let b : j < n + 2 = ltb-true j (n + 2) e in ready (j - 3) (omega arith))
               (chosen (Tidy c) (ltb j (n + 6)) _ _ (λ e. cst_tidy c one64) (cst_tidy c zero64)))) i);
           parameters = ready;
-          first = hp.same 0 (omega arith);
-          last = hp.same (n - 1) (omega arith) ∙ rw (ne_eqb (n - 1) 0 (omega arith), le-ltb (n - 1) (n - 1) (omega arith));
+          first = hp 0 (omega arith);
+          last = hp (n - 1) (omega arith) ∙ rw (ne_eqb (n - 1) 0 (omega arith), le-ltb (n - 1) (n - 1) (omega arith));
           points = few;
         }

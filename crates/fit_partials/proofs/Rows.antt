@@ -29,8 +29,8 @@ use Rattle.fit.specs.System.{origin, spread, with_sides, row_at, row_of, fit_row
 use Rattle.fit.proofs.Rows.{fit_row-at, fit_rows_shaped}
 use Rattle.fit.proofs.Spread.{column_is, elsewhere, sides_are}
 use Rattle.fit_partials.specs.Variables.{variables_of}
-use Rattle.fit_partials.specs.Stored.{Laid, Stored, side_of, found_row, found_fit_row, found_fit_rows, of_point, station_of, span_row, ReadyFit}
-use Rattle.fit_partials.proofs.Laid.{laid_same, stored_as, stored_join, blank_stored}
+use Rattle.fit_partials.specs.Stored.{Laid, Stored, side_of, found_row, found_fit_row, found_fit_rows, of_point, station_of, span_row}
+use Rattle.fit_partials.proofs.Laid.{laid_same, stored_join, blank_stored}
 
 -- the four numbers of a span, spread over a row, are the definition's row
 pub four-row : {A : Type 0} (o : Ops A) (sp : Float → ℕ) (ks : List A) (t : A) (d : ℕ) {i : ℕ} {six : List A} {ders : List (List A)}
@@ -107,14 +107,11 @@ module _ (ks : List Dv) (us : List Float) (ps : List Dv) (q : List Float) (n : �
         rw (z, y) (span-number 2 (origin dual) k h ∙ ap (λ (l : List Dv). at1 dual l k) row)))
 
 -- row r of the system as it is stored, with the verdict on it
-pub row-found : (c n r : ℕ) (ks : List Dv) (us : List Float) (ps : List Dv) (q : List Float) {six : List Dv} {i : ℕ} (t : Dv) {w w' : List Float} {ns ns' : List ℕ} {fine : Bool}
-    → r < n + 2 → i ≡ counted_of us (n + 2) t.v → 3 ≤ i → i ≤ 65 → six ≡ window dual ks i → t ≡ at1 dual ps (station_of n r) → ReadyFit c n ks ps q
-    → Stored c (r * (n + 2 + 2)) (n + 2 + 2) (span_row six i t q n r) w ns w' ns' fine
+pub row-found : (c n r : ℕ) (ks : List Dv) (us : List Float) (ps : List Dv) (q : List Float) {w w' : List Float} {ns ns' : List ℕ} {fine : Bool}
+    → r < n + 2 → Stored c (r * (n + 2 + 2)) (n + 2 + 2) (at1 dual (found_fit_row ks us ps q n r)) w ns w' ns' fine
     → Laid c (r * (n + 2 + 2)) (n + 2 + 2) (at1 dual (get_or (found_fit_rows ks us ps q n) r [])) w ns w' ns' × (fine ≡ all_fine dual (found_fit_row ks us ps q n r))
-row-found c n r ks us ps q {six} {i} t high span low far six-is at ready a =
-    let number = span-row ks us ps q n r t span low far six-is ready.first ready.last at in
-    let whole = found-row_at ks us ps q n r high in
-    let stored = stored_as c (r * (n + 2 + 2)) (n + 2 + 2) _ (at1 dual (found_fit_row ks us ps q n r)) number a in (
+row-found c n r ks us ps q high stored =
+    let whole = found-row_at ks us ps q n r high in (
       laid_same c (r * (n + 2 + 2)) (n + 2 + 2) _ _ (λ k h. ap (λ (l : List Dv). at1 dual l k) (sym whole)) stored.laid,
       stored.judged ∙ sym (row-verdict ks us ps q n r high),
     )

@@ -16,7 +16,7 @@ use Rattle.meaning.specs.Search.{listed, every}
 use Rattle.meaning.proofs.Tests.{by_two, same_test}
 use Rattle.meaning.proofs.Every.{all, each}
 use Rattle.meaning.proofs.Searching.{seek-first}
-use Rattle.meaning.proofs.Filling.{Filled, length-listed, nth_listed}
+use Rattle.meaning.proofs.Filling.{length-listed, nth_listed}
 use Rattle.partials.specs.declared.Dv.{Dv}
 use Rattle.partials.specs.Dual.{fine_dv, dual}
 use Rattle.span.specs.Counting.{counted_of}
@@ -94,8 +94,20 @@ module _ (q : List Float) where
       ∙ and_assoc (all_fine dual knots) (all_fine dual rows) (all_fine dual steps)
       ∙ (λ i. all_fine dual knots && (all_fine dual rows && solve_fine i))
 
+-- the parameters and the knots of the code, one by one
+module _ (q : List Float) (ps : List Dv) (hp : ps ≡ listed 0 (points_in q) (fit_parameter dual (variables_of q) (points_in q))) where
+  pub how_many : length ps ≡ points_in q
+  how_many = ap length hp ∙ length-listed 0 (points_in q) (fit_parameter dual (variables_of q) (points_in q))
+
+  pub parameter_is : (k : ℕ) → k < points_in q → at1 dual ps k ≡ fit_parameter dual (variables_of q) (points_in q) k
+  parameter_is k l =
+      ap (λ (t : List Dv). at1 dual t k) hp ∙ nth_listed (points_in q) k (fit_parameter dual (variables_of q) (points_in q)) dual.off l
+
+  pub knots_made : (ks : List Dv) → ks ≡ listed 0 18 (knot_at dual (at1 dual ps) (length ps)) → ks ≡ listed 0 18 (knot_at dual (at1 dual ps) (points_in q))
+  knots_made ks hk = hk ∙ ap (λ (n : ℕ). listed 0 18 (knot_at dual (at1 dual ps) n)) how_many
+
 module _ (q : List Float) (two : 2 ≤ points_in q) (few : points_in q ≤ 12) (ps ks : List Dv) (us : List Float)
-    (hp : Filled (fit_parameter dual (variables_of q) (points_in q)) dual.off 12 (points_in q) ps)
+    (hp : (k : ℕ) → k < points_in q → at1 dual ps k ≡ fit_parameter dual (variables_of q) (points_in q) k)
     (hk : ks ≡ listed 0 18 (knot_at dual (at1 dual ps) (points_in q))) (hu : us ≡ listed 0 18 (λ j. (at1 dual ks j).v)) where
   abbrev n : ℕ
   n = points_in q
@@ -112,7 +124,7 @@ module _ (q : List Float) (two : 2 ≤ points_in q) (few : points_in q ≤ 12) (
   knot_here j h =
       ap (λ (l : List Dv). at1 dual l j) hk
       ∙ nth_listed 18 j (knot_at dual (at1 dual ps) n) dual.off h
-      ∙ knot_cong dual (at1 dual ps) (fit_parameter dual (variables_of q) n) n j (omega arith) (λ k l. hp.same k l)
+      ∙ knot_cong dual (at1 dual ps) (fit_parameter dual (variables_of q) n) n j (omega arith) hp
 
   knot_there : (j : ℕ) → j < 70 → at1 dual (knots_with q) j ≡ knot_of j
   unfolding knots_by
@@ -185,7 +197,7 @@ module _ (q : List Float) (two : 2 ≤ points_in q) (few : points_in q ≤ 12) (
     unfolding found_fit_rows
     rows_are =
         let ours = fit_parameter dual (variables_of q) n in
-        fit_rows_cong dual (counted_of us (n + 2)) ks (at1 dual ps) ours (variables_of q) n (omega arith) (λ k l. hp.same k l)
+        fit_rows_cong dual (counted_of us (n + 2)) ks (at1 dual ps) ours (variables_of q) n (omega arith) hp
         ∙ ap (λ (sp : Float → ℕ). fit_rows dual sp ks ours (variables_of q) n) (λ i x. span-found x i)
         ∙ rows_same dual (span_through q) ks (knots_with q) (λ x. (span_of_lem x).0) (λ x. omega (arith, (span_of_lem x).1))
         (λ x. window_same (span_through q x) (span_of_lem x).0 (span_of_lem x).1)

@@ -1,5 +1,5 @@
 -- Inner: what the filling of the system leaves in the two lent slices, and the numbers that lie in a cell as they are.
-use Rattle.std.specs.Prelude.{◌≡◌, Bool, false, cond, List, [], ℕ, ◌+◌, ◌-◌, ◌*◌, ◌≤◌, ◌<◌, eqb, leb, length, get_or, drop, Float}
+use Rattle.std.specs.Prelude.{◌≡◌, Bool, true, false, ◌&&◌, cond, List, [], ℕ, ◌+◌, ◌-◌, ◌*◌, ◌≤◌, ◌<◌, eqb, leb, length, get_or, drop, Float}
 use Rattle.std.specs.Float.{nan}
 use Rattle.meaning.specs.Scalar.{zero64, one64}
 use Rattle.meaning.specs.Table.{at1}
@@ -9,10 +9,12 @@ use Rattle.partials.specs.Dual.{fine_dv, dual}
 use Rattle.span.specs.Counting.{counted_of}
 use Rattle.plane.specs.Vector.{Vector}
 use Rattle.cells.specs.Cell.{cell_at}
+use Rattle.solve.specs.Outcome.{Solution}
 use Rattle.basis.specs.Basis.{derivatives_of}
 use Rattle.fit.specs.Parameters.{point_at}
 use Rattle.fit.specs.System.{origin, spread, with_sides, row_of, fit_row, fit_rows}
 use Rattle.fit_partials.specs.Variables.{variables_of}
+use Rattle.fit_partials.specs.Through.{Piece, no_piece}
 
 -- at most c partials, and +0.0 in the places past them
 pub record Tidy (c : ℕ) (d : Dv) : Type 0 where
@@ -43,6 +45,10 @@ pub record Room (c at n : ℕ) (w : List Float) (ns : List ℕ) : Type 0 where
   pub few : at + n ≤ 224
   pub bytes : at + n ≤ length ns
   pub doubles : (at + n) * (c + 1) ≤ length w
+
+-- what a span reads, where the verdict on all but the solve is `fine`: its six knots, and the four control points that were solved for
+abbrev pub piece_of : Bool → List Dv → Solution Dv → Piece
+piece_of fine six s = cond (fine && s.fine) (record { knots = six; xs = s.xs; ys = s.ys; fine = true }) no_piece
 
 -- ---- the system
 

@@ -1,6 +1,8 @@
--- Inner: the struct of the code, as the definitions see it.
+-- Inner: the code's answer, as the definitions see it.
+use Rattle.std.specs.Prelude.{true, Option, Some, None}
 use Rattle.fit_partials.specs.declared.Piece as Code
-use Rattle.fit_partials.specs.Through.{Piece}
+use Rattle.fit_partials.specs.Through.{Piece, no_piece}
 
-abbrev pub view : Code.Piece → Piece
-view a = record { knots = a.knots; xs = a.xs; ys = a.ys; fine = a.fine }
+abbrev pub view : Option Code.Piece → Piece
+view (Some a) = record { knots = a.knots; xs = a.xs; ys = a.ys; fine = true }
+view None = no_piece

@@ -7,7 +7,6 @@ ghost use Rattle.std.specs.Float.{binary64};
 ghost use Rattle.std.specs.Float.Ieee.{nan_bits};
 
 use std::io;
-use std::io::Read;
 
 // Whether a pattern is not that of a NaN: only of such a pattern is a double made.
 fn is_number(bits: u64) -> bool
@@ -23,27 +22,16 @@ fn root_of(x: u64) -> u64
     f64::to_bits(root::root(f64::from_bits(x)))
 }
 
-// Reads until the room is full or the input ends, and answers how many bytes it read.
-fn read_full(rt: &impl Input, room: &mut [u8]) -> io::Result<usize> {
-    let limit = room.len() as u64;
-    let mut rest = room;
-    let n = io::copy(&mut rt.reader().take(limit), &mut rest)?;
-    Ok(n as usize)
-}
-
 // Writes the root of the next line, and answers whether there was one. A line that is cut off ends in zeros here, and is none.
 fn print_next(rt: &(impl Input + Print)) -> io::Result<bool> {
     let mut line = [0u8; 17];
-    if read_full(rt, &mut line)? == 0 {
+    if programs::read_full(rt.reader(), &mut line)? == 0 {
         return Ok(false);
     }
-    let x = sheet_read::read_line(&line, 16);
-    if x.formed && is_number(x.bits) {
-        print!(rt; "{:016x}", root_of(x.bits))?;
-    } else {
-        print!(rt; "?")?;
+    match sheet_read::read_line(&line, 16) {
+        Some(x) if is_number(x) => println!(rt; "{:016x}", root_of(x))?,
+        _ => println!(rt; "?")?,
     }
-    println!(rt)?;
     Ok(true)
 }
 
@@ -51,7 +39,7 @@ fn print_next(rt: &(impl Input + Print)) -> io::Result<bool> {
 fn main(rt: HostRuntime) -> io::Result<()> {
     for _ in 0..0x100_0000_0000u64 {
         if !print_next(&rt)? {
-            return Ok(());
+            break;
         }
     }
     Ok(())

@@ -16,8 +16,7 @@ use Rattle.meaning.specs.Root.{in_units}
 use Rattle.meaning.specs.Scalar.{plain}
 use Rattle.meaning.specs.Table.{at1}
 use Rattle.meaning.specs.Loops.{turns}
-use Rattle.refusal.specs.declared.Refusal.{Refusal}
-use Rattle.refusal.specs.Refusals.{none, first_of}
+use Rattle.refusal.specs.Refusals.{Verdict, none, first_of}
 use Rattle.refusal.proofs.Rows.{Passed}
 use Rattle.knots.specs.declared.Form.TheVariants.{Control}
 use Rattle.meaning.specs.Search.{seek_from, listed}
@@ -137,10 +136,10 @@ slices_tested =
     }
 
 -- so a call for the point alone that refuses everything breaks the promise: no refusal is allowed here
-pub rooms_answered : (r : Refusal) → NeverRefused rooms middle 0 (nil ∷ nil ∷ []) r → r ≡ none
+pub rooms_answered : (r : Verdict) → NeverRefused rooms middle 0 (nil ∷ nil ∷ []) r → r ≡ none
 rooms_answered r h = h rooms_tested.rules (drawable rooms_tested) refl (lit≤ tt)
 
-pub slices_answered : (r : Refusal) → NeverRefused slices middle 0 (nil ∷ nil ∷ []) r → r ≡ none
+pub slices_answered : (r : Verdict) → NeverRefused slices middle 0 (nil ∷ nil ∷ []) r → r ≡ none
 slices_answered r h = h slices_tested.rules (drawable slices_tested) refl (lit≤ tt)
 
 -- ---- why the knots are bounded: four times -2 ^ 1023 and four times 2 ^ 1023, at 0, with all control points at (1, 1)

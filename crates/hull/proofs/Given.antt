@@ -34,6 +34,15 @@ pub record Doubles (c : Shape Float) (t : Float) : Type 0 where
   pub ys : AllDoubles c.ys
   pub parameter : T (fits binary64 t)
 
+-- the same of the curve alone
+pub record AllNumbers (c : Shape Float) : Type 0 where
+  pub knots : AllDoubles c.knots
+  pub xs : AllDoubles c.xs
+  pub ys : AllDoubles c.ys
+
+pub with_parameter : {c : Shape Float} {t : Float} → AllNumbers c → T (fits binary64 t) → Doubles c t
+with_parameter a d = record { knots = a.knots; xs = a.xs; ys = a.ys; parameter = d }
+
 -- ---- what an array's type says of its entries, as an array and as a field of a struct
 
 pub of_field : (l : List Float) (us : List Val) → shadow (each Float (FloatOf binary64).own_val l us) → AllDoubles l

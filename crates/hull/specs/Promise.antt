@@ -3,8 +3,7 @@
 use Rattle.std.specs.Prelude.{◌≡◌, List, ℕ, ◌≤◌, length, Float}
 use Rattle.meaning.specs.Scalar.{plain}
 use Rattle.meaning.specs.Table.{at1}
-use Rattle.refusal.specs.declared.Refusal.{Refusal}
-use Rattle.refusal.specs.Refusals.{none, first_of}
+use Rattle.refusal.specs.Refusals.{Verdict, none, first_of}
 use Rattle.shape.specs.Shape.{Shape}
 use Rattle.shape.specs.Offered.{Offered}
 use Rattle.hull.specs.Hull.{InHull}
@@ -16,9 +15,9 @@ pub record PointInHull (c : Shape Float) (t x y : Float) : Type 0 where
   pub y_in : InHull c.ys (span_at c t) y
 
 -- an answered point, the first two numbers of the slice, lies in its hull
-abbrev pub InItsHull : Offered → Float → Refusal → List Float → Type 0
+abbrev pub InItsHull : Offered → Float → Verdict → List Float → Type 0
 InItsHull who t r out' = r ≡ none → InDomain who.shape t → PointInHull who.shape t (at1 plain out' 0) (at1 plain out' 1)
 
 -- the point alone of an accepted curve, with room for it, is not refused
-abbrev pub NeverRefused : Offered → Float → ℕ → List Float → Refusal → Type 0
+abbrev pub NeverRefused : Offered → Float → ℕ → List Float → Verdict → Type 0
 NeverRefused who t order out r = first_of who.rules ≡ none → Drawable who.shape t → order ≡ 0 → 2 ≤ length out → r ≡ none

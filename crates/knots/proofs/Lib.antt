@@ -3,5 +3,6 @@ pub mod Sorted
 pub mod Repeats
 pub mod Accepted
 pub mod Passing
+pub mod Passes
 pub mod Refused
 pub mod LastRows

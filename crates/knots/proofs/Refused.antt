@@ -7,7 +7,7 @@ use native.Mathlib.Omega.{arith}
 use borrow.Author.Tests.{ltb-false, leb-false, lt-ltb, le-ltb, le-leb, lt-leb, eq-eqb, ne_eqb}
 use lib.ListN.{length}
 use lib.Ieee.{Float}
-use Rattle.refusal.specs.declared.Refusal.{Refusal}
+use Rattle.refusal.specs.Refusals.{Verdict}
 use Rattle.refusal.specs.Refusals.{refusal, none, first_of}
 use lib.Dec.{T}
 use Rattle.refusal.proofs.Rows.{Passed, Refused, number_of, row_passed, numbered, passed_none}
@@ -49,10 +49,10 @@ none-given : (form : Form) (handles : ℕ) (ks : List Float) → first_of (knot_
 unfolding first_of knot_rules
 none-given form handles ks = refl
 
-abbrev first_rows : Bool → Bool → Bool → Refusal → Refusal
+abbrev first_rows : Bool → Bool → Bool → Verdict → Verdict
 first_rows a b c r = cond a (refusal 2) (cond b (refusal 3) (cond c (refusal 4) r))
 
-stays : (a b c : Bool) (r : Refusal) → ((first_rows a b c none).number ≡ 0 → ⊥) → first_rows a b c none ≡ first_rows a b c r
+stays : (a b c : Bool) (r : Verdict) → ((first_rows a b c none).number ≡ 0 → ⊥) → first_rows a b c none ≡ first_rows a b c r
 stays true b c r h = refl
 stays false true c r h = refl
 stays false false true r h = refl
@@ -92,7 +92,7 @@ numbered-knots form n given ks = tt
 
 -- ---- the whole table, from the rows on the handles
 
-module _ (form : Form) (n : ℕ) (given : Bool) (ks : List Float) {r : Refusal} (told : r ≡ first_of (knot_rules form n false [])) where
+module _ (form : Form) (n : ℕ) (given : Bool) (ks : List Float) {r : Verdict} (told : r ≡ first_of (knot_rules form n false [])) where
   pub check_refused : (r.number ≡ 0 → ⊥) → r ≡ first_of (knot_rules form n given ks)
   check_refused h = told ∙ by_handles form n given ks (λ z. h (number_of told ∙ z))
 
@@ -112,7 +112,7 @@ module _ (form : Form) (n : ℕ) (given : Bool) (ks : List Float) {r : Refusal} 
     pub check_room : form ≡ Control → (4 ≤ n) × (n ≤ 66)
     check_room f = room_for n false [] (subst (λ (x : Form). Passed (knot_rules x n false [])) f handles_pass)
 
-  pub check_list : given ≡ true → form ≡ Control → {s : Refusal} → s ≡ first_of (knot_rules Control n true ks) → s ≡ first_of (knot_rules form n given ks)
+  pub check_list : given ≡ true → form ≡ Control → {s : Verdict} → s ≡ first_of (knot_rules Control n true ks) → s ≡ first_of (knot_rules form n given ks)
   check_list e f q = q ∙ (λ i. first_of (knot_rules (sym f i) n (sym e i) ks))
 
 -- ---- a list for a number of control points that a curve can have

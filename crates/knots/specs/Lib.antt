@@ -1,3 +1,4 @@
 -- The knot rules.
 pub mod Rules
 pub mod Repeat
+pub mod Given

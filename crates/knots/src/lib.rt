@@ -1,206 +1,124 @@
 // The knot rules.
 #![tactic(auto)]
 
-ghost use Rattle.std.specs.Prelude.{◌≡◌, true, false, [], ◌+◌, ◌≤◌, ◌<◌, length};
-ghost use Rattle.refusal.specs.Refusals.{first_of};
-ghost use Rattle.meaning.specs.Search.{seek};
-ghost use Rattle.meaning.specs.Nowhere.{Nowhere};
-ghost use Rattle.knots.specs.Rules.{unfit, some_unfit, unlike, knot_rules};
+ghost use Rattle.std.specs.Prelude.{◌≡◌, true, false, not, [], ◌+◌, ◌≤◌, length};
+ghost use Rattle.std.specs.List.{list_all};
+ghost use Rattle.std.specs.Float.Ieee.{eq};
+ghost use Rattle.refusal.specs.Refusals.{first_of, verdict};
+ghost use Rattle.meaning.specs.Search.{some};
+ghost use Rattle.knots.specs.Rules.{some_unfit, knot_rules};
 ghost use Rattle.knots.specs.Repeat.{repeats};
+ghost use Rattle.knots.specs.Given.{given, given_list};
 ghost use Rattle.knots.specs.declared.Form.TheVariants.{Control};
 
 use refusal::Refusal;
 
 // What a spline's handles are: its control points, or points that it passes through.
-#[derive(Clone, Copy)]
+#[derive(Clone, Copy, Debug, PartialEq, Eq)]
 pub enum Form {
     Control,
     Fit,
 }
 
 // The rules on the number of handles alone: those of the table where no knots are given.
-fn refused_handles(form: Form, handles: usize) -> Refusal
-    ensures { result ≡ first_of (knot_rules form handles false []) }
+fn check_handles(form: Form, handles: usize) -> Result<(), Refusal>
+    ensures { verdict result ≡ first_of (knot_rules form handles false []) }
 {
     if handles < 2 {
-        return refusal::by(2);
+        return Err(Refusal::FewHandles);
     }
     match form {
         Form::Control => {
             if handles < 4 {
-                return refusal::by(3);
+                return Err(Refusal::FewControlPoints);
             }
             if handles > 66 {
-                return refusal::by(4);
+                return Err(Refusal::ManyHandles);
             }
-            refusal::by(0)
         }
         Form::Fit => {
             if handles > 64 {
-                return refusal::by(4);
+                return Err(Refusal::ManyHandles);
             }
-            refusal::by(0)
         }
     }
+    Ok(())
 }
 
-// Whether knot i is not finite or less than the one before.
-fn is_unfit(knots: &[f64], i: usize) -> bool
-    requires { i < length knots.now }
-    ensures { result ≡ unfit knots.now i }
-{
-    if !number::is_finite(knots[i]) {
-        return true;
-    }
-    if i == 0 {
-        return false;
-    }
-    knots[i] < knots[i - 1]
-}
-
-// Whether each knot is finite and not less than the one before. The loop has no way out but its end, so that a processor takes several knots at once.
+// Whether each knot is finite and not less than the one before, in one pass with no way out but its end, so that a processor takes several knots at once.
 fn all_fit(knots: &[f64]) -> bool
     requires { 1 ≤ length knots.now }
-    ensures { result ≡ true → Nowhere (unfit knots.now) 0 (length knots.now) }
+    ensures { result ≡ not (some_unfit knots.now) }
 {
-    let mut fine = number::is_finite(knots[0]);
-    let end = knots.len();
-    for i in 1..end {
-        fine = fine & number::is_finite(knots[i]) & !(knots[i] < knots[i - 1]);
-    }
-    fine
+    let pairs = knots.iter().zip(&knots[1..]);
+    pairs.fold(number::is_finite(knots[0]), |fit, (before, knot)| {
+        fit & (number::is_finite(*knot) & !(*knot < *before))
+    })
 }
 
-// The first knot that is not finite or less than the one before, or the number of knots, by going from one to the next.
-fn seek_unfit(knots: &[f64]) -> usize
-    ensures { result ≡ seek 0 (length knots.now) (unfit knots.now) }
+// Whether each knot is equal to this one.
+fn all_equal(knots: &[f64], one: f64) -> bool
+    ensures { result ≡ list_all (λ k. eq k one) knots.now }
 {
-    let end = knots.len();
-    for i in 0..end {
-        if is_unfit(knots, i) {
-            return i;
-        }
-    }
-    end
-}
-
-// The same. Most lists have none, which a pass tells first.
-fn first_unfit(knots: &[f64]) -> usize
-    requires { 1 ≤ length knots.now }
-    ensures { result ≡ seek 0 (length knots.now) (unfit knots.now) }
-{
-    if all_fit(knots) {
-        return knots.len();
-    }
-    seek_unfit(knots)
-}
-
-// The first knot from lo on, below hi, that is not equal to knot j, or hi.
-fn first_unlike(knots: &[f64], lo: usize, hi: usize, j: usize) -> usize
-    requires fact_1 { lo ≤ hi }
-    requires fact_2 { hi ≤ length knots.now }
-    requires fact_3 { j < length knots.now }
-    ensures { result ≡ seek lo hi (unlike knots.now j) }
-{
-    for i in lo..hi {
-        if knots[i] != knots[j] {
-            return i;
-        }
-    }
-    hi
+    knots.iter().all(|knot| *knot == one)
 }
 
 // Whether no knot from 1 on, below n, equals the third knot after it, in one pass.
 fn none_repeats(knots: &[f64], n: usize) -> bool
     requires fact_1 { 1 ≤ n }
     requires fact_2 { length knots.now ≡ n + 4 }
-    ensures { result ≡ true → Nowhere (repeats knots.now) 1 n }
+    ensures { result ≡ not (some 1 n (repeats knots.now)) }
 {
-    let mut fine = true;
-    for j in 1..n {
-        fine = fine & (knots[j] != knots[j + 3]);
-    }
-    fine
-}
-
-// The first knot from 1 on, below n, that equals the third knot after it, or n, by going from one to the next.
-fn seek_repeat(knots: &[f64], n: usize) -> usize
-    requires fact_1 { 1 ≤ n }
-    requires fact_2 { length knots.now ≡ n + 4 }
-    ensures { result ≡ seek 1 n (repeats knots.now) }
-{
-    for j in 1..n {
-        if knots[j] == knots[j + 3] {
-            return j;
-        }
-    }
-    n
-}
-
-// The same. Most lists have none, which a pass tells first.
-fn first_repeat(knots: &[f64], n: usize) -> usize
-    requires fact_1 { 1 ≤ n }
-    requires fact_2 { length knots.now ≡ n + 4 }
-    ensures { result ≡ seek 1 n (repeats knots.now) }
-{
-    if none_repeats(knots, n) {
-        return n;
-    }
-    seek_repeat(knots, n)
+    let pairs = knots[1..n].iter().zip(&knots[4..]);
+    pairs.fold(true, |apart, (knot, third)| apart & (*knot != *third))
 }
 
 // The rules on the ends and on repeats, for n + 4 finite knots that do not fall.
-fn refused_ends(n: usize, knots: &[f64]) -> Refusal
+fn check_ends(n: usize, knots: &[f64]) -> Result<(), Refusal>
     requires fact_1 { (4 ≤ n) × (n ≤ 66) }
     requires fact_2 { length knots.now ≡ n + 4 }
     requires fact_3 { some_unfit knots.now ≡ false }
-    ensures { result ≡ first_of (knot_rules Control n true knots.now) }
+    ensures { verdict result ≡ first_of (knot_rules Control n true knots.now) }
 {
-    let end = n + 4;
-    let last = n + 3;
-    if first_unlike(knots, 0, 4, 0) < 4 {
-        return refusal::by(8);
+    let (first, last) = (knots[0], knots[n + 3]);
+    if !all_equal(&knots[..4], first) {
+        return Err(Refusal::NotClamped);
     }
-    if first_unlike(knots, n, end, last) < end {
-        return refusal::by(8);
+    if !all_equal(&knots[n..], last) {
+        return Err(Refusal::NotClamped);
     }
-    if knots[0] >= knots[last] {
-        return refusal::by(9);
+    if first >= last {
+        return Err(Refusal::NoInterval);
     }
-    if first_repeat(knots, n) < n {
-        return refusal::by(10);
+    if !none_repeats(knots, n) {
+        return Err(Refusal::CrowdedKnot);
     }
-    refusal::by(0)
+    Ok(())
 }
 
 // The rules on a list of knots for n control points.
-fn refused_list(n: usize, knots: &[f64]) -> Refusal
+fn check_list(n: usize, knots: &[f64]) -> Result<(), Refusal>
     requires { (4 ≤ n) × (n ≤ 66) }
-    ensures { result ≡ first_of (knot_rules Control n true knots.now) }
+    ensures { verdict result ≡ first_of (knot_rules Control n true knots.now) }
 {
     if knots.len() != n + 4 {
-        return refusal::by(6);
+        return Err(Refusal::KnotCount);
     }
-    if first_unfit(knots) < knots.len() {
-        return refusal::by(7);
+    if !all_fit(knots) {
+        return Err(Refusal::UnfitKnot);
     }
-    refused_ends(n, knots)
+    check_ends(n, knots)
 }
 
-// Why a spline of so many handles, with these knots where any are given, is refused by the rules 2 to 10.
+// Why a spline of so many handles, over these knots where any are given, is refused by the rules 2 to 10.
 // Corresponds to spline.rs: check.
-pub fn check(form: Form, handles: usize, given: bool, knots: &[f64]) -> Refusal
-    ensures { result ≡ first_of (knot_rules form handles given knots.now) }
+pub fn check(form: Form, handles: usize, knots: Option<&[f64]>) -> Result<(), Refusal>
+    ensures { verdict result ≡ first_of (knot_rules form handles (given knots.entry) (given_list (λ k. k.now) knots.entry)) }
 {
-    let r = refused_handles(form, handles);
-    if r.number != 0 {
-        return r;
-    }
-    if !given {
-        return refusal::by(0);
-    }
-    match form {
-        Form::Control => refused_list(handles, knots),
-        Form::Fit => refusal::by(5),
+    check_handles(form, handles)?;
+    match (form, knots) {
+        (_, None) => Ok(()),
+        (Form::Control, Some(list)) => check_list(handles, list),
+        (Form::Fit, Some(_)) => Err(Refusal::KnotsWithFitPoints),
     }
 }

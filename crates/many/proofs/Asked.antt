@@ -8,8 +8,7 @@ use native.Mathlib.Numerals.{add-one}
 use native.Mathlib.Omega.{arith}
 use lib.ListN.{length, get_or, set, take, drop}
 use lib.Ieee.{Float}
-use Rattle.refusal.specs.declared.Refusal.{Refusal}
-use Rattle.refusal.specs.Refusals.{Row, refusal, none, first_of}
+use Rattle.refusal.specs.Refusals.{Verdict, Row, refusal, none, first_of}
 use Rattle.refusal.proofs.Rows.{Passed, number_of}
 use Rattle.outcome.specs.Outcome.{Outcome, outcome}
 use Rattle.outcome.proofs.Doors.{passes_true, passes_false}
@@ -67,7 +66,7 @@ module _ (w : ℕ) (each : ℕ → List Float → Outcome) (out : List Float) (r
 
     -- the equation, and each question by itself
     module _ (rules : List Row) where
-      pub asked_alone : {r : Refusal} {out' : List Float} {refusals' : List ℕ} → many r out' refusals' ≡ answering_many rules n w each out refusals → r ≡ none
+      pub asked_alone : {r : Verdict} {out' : List Float} {refusals' : List ℕ} → many r out' refusals' ≡ answering_many rules n w each out refusals → r ≡ none
           → (k : ℕ) → k < n → outcome (refusal (get_or refusals' k 0)) (place_of w k out') ≡ each k (place_of w k out)
       unfolding answering_many
       asked_alone {r} {out'} {refusals'} a z k h =
@@ -79,10 +78,10 @@ module _ (w : ℕ) (each : ℕ → List Float → Outcome) (out : List Float) (r
           ap (λ (m : Many). get_or m.refusals k 0) b ∙ one_stands (λ j. (left j).refusal.number) refusals n k 0 h in
           λ i. outcome (refusal (number i)) (place i)
 
-  module _ (rules : List Row) (n : ℕ) {r : Refusal} (e : r ≡ first_of rules) where
+  module _ (rules : List Row) (n : ℕ) {r : Verdict} (e : r ≡ first_of rules) where
     pub many_refused : (r.number ≡ 0 → ⊥) → many r out refusals ≡ answering_many rules n w each out refusals
     unfolding answering_many
-    many_refused h = rw (passes_false rules (λ z. h (number_of e ∙ z))) (ap (λ (x : Refusal). many x out refusals) e)
+    many_refused h = rw (passes_false rules (λ z. h (number_of e ∙ z))) (ap (λ (x : Verdict). many x out refusals) e)
 
     pub many-answered : Passed rules → {out' : List Float} {refusals' : List ℕ} → Asked w each out refusals n out' refusals'
         → many r out' refusals' ≡ answering_many rules n w each out refusals

@@ -1,8 +1,7 @@
 -- What a call leaves behind that is asked many questions. docs/RULES.md, "Many at once", decides: each question has its own place in one lent slice, w
 -- numbers, and one number for its refusal in another, and it leaves in its place what it leaves there when it is asked alone.
 use Rattle.std.specs.Prelude.{◌||◌, cond, List, [], ◌∷◌, ◌++◌, ℕ, zero, suc, ◌*◌, take, drop, ltb, Float}
-use Rattle.refusal.specs.declared.Refusal.{Refusal}
-use Rattle.refusal.specs.Refusals.{Row, row, first_of, passes}
+use Rattle.refusal.specs.Refusals.{Verdict, Row, row, first_of, passes}
 use Rattle.outcome.specs.Outcome.{Outcome}
 
 -- ---- places of w entries each
@@ -29,11 +28,11 @@ room_row n w out refusals = row 14 (ltb out (n * w) || ltb refusals n)
 
 -- the refusal of the whole call, and the two slices afterwards
 pub record Many : Type 0 where
-  pub refusal : Refusal
+  pub refusal : Verdict
   pub out : List Float
   pub refusals : List ℕ
 
-abbrev pub many : Refusal → List Float → List ℕ → Many
+abbrev pub many : Verdict → List Float → List ℕ → Many
 many r out refusals = record { refusal = r; out = out; refusals = refusals }
 
 -- by these rules of the call: where nothing refuses it, question k leaves in its place what `each k` leaves there

@@ -6,6 +6,7 @@ pub mod While
 pub mod Searching
 pub mod Every
 pub mod Filling
+pub mod Made
 pub mod Pasting
 pub mod Order
 pub mod Nans

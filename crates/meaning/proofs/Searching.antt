@@ -1,12 +1,19 @@
 -- What `seek` and `some` answer, and the invariant of a loop that searches upwards and returns at the first find. Assumes nothing.
 use mathlib.Core.Path.{◌≡◌, refl, sym, ap, ◌∙◌}
-use mathlib.Core.Bool.{Bool, true, false, cond}
+use mathlib.Core.Bool.{Bool, true, false, not, ◌&&◌, cond}
+use mathlib.Core.List.{List, [], ◌∷◌}
 use mathlib.Core.Logic.{inl, inr}
-use Prim.Native.Nat.{ℕ, zero, suc, ◌+◌, ◌-◌, ◌≤◌, ◌<◌}
-use native.Mathlib.Nat.{le_refl, eq-or-lt_of_le}
+use Prim.Native.Nat.{ℕ, zero, suc, ◌+◌, ◌-◌, ◌≤◌, ◌<◌, min}
+use native.Mathlib.Nat.{le_refl, eq-or-lt_of_le, min-le_left, min-le_right}
 use native.Mathlib.Omega.{arith}
 use borrow.Author.Count.{below_more}
-use borrow.Author.Tests.{ltb-true, ltb-false, lt-ltb, le-ltb}
+use borrow.Author.Tests.{ltb-true, ltb-false, lt-ltb, le-ltb, not-true, not-false}
+use lib.ListN.{length, get_or}
+use Rattle.std.specs.List.{fold, list_all, zip, AllWithin, HoldsAt}
+use Rattle.std.specs.Prelude.{Option, None, Some, MatchOption}
+use Rattle.std.specs.Option.{unwrap_or}
+use Rattle.std.proofs.lemmas.Slice.Zip.{length-zip, get_or-zip}
+use Rattle.std.proofs.lemmas.List.Folds.{list_all_at}
 use Rattle.meaning.specs.Search.{seek_from, seek, some}
 use Rattle.meaning.specs.Nowhere.{Nowhere}
 
@@ -128,3 +135,56 @@ module _ (p : ℕ → Bool) (lo hi : ℕ) {r : ℕ} where
 
   pub told_none : r ≡ seek lo hi p → hi ≤ r → some lo hi p ≡ false
   told_none e h = le-ltb (seek lo hi p) hi (rw e at h)
+
+-- ---- a pass over a list that keeps in a flag whether each item so far has passed a test, and never stops early
+
+module _ {X : Type 0} (t : X → Bool) where
+  pub kept_all : (xs : List X) (b : Bool) → fold (λ f x. f && t x) b xs ≡ b && list_all t xs
+  kept_all [] true = refl
+  kept_all [] false = refl
+  kept_all (x ∷ xs) true = kept_all xs (t x)
+  kept_all (x ∷ xs) false = kept_all xs false
+
+  each_passes : (d : X) (xs : List X) → ((i : ℕ) → i < length xs → t (get_or xs i d) ≡ true) → list_all t xs ≡ true
+  each_passes d [] h = refl
+  each_passes d (x ∷ xs) h = rw (h 0 (omega arith)) (each_passes d xs (λ i l. h (suc i) (omega arith)))
+
+  -- it stands where a search along as many indices, for one at which the test fails, finds none
+  pub all_some : (d : X) (xs : List X) (p : ℕ → Bool) (lo hi : ℕ) → lo + length xs ≡ hi
+      → ((i : ℕ) → i < length xs → p (lo + i) ≡ not (t (get_or xs i d))) → list_all t xs ≡ not (some lo hi p)
+  all_some d xs p lo hi long same = by (some lo hi p) refl
+    where
+      by : (b : Bool) → some lo hi p ≡ b → list_all t xs ≡ not b
+      by true q =
+          let f = some-found p lo hi q in
+          let i = seek lo hi p - lo in
+          let here : lo + i ≡ seek lo hi p = omega (arith, f.0) in
+          let low : i < length xs = omega (arith, f.0, f.1.0) in
+          list_all_at t xs i d low (not-true _ (sym (same i low) ∙ ap p here ∙ f.1.1))
+      by false q = each_passes d xs (λ i l. not-false _ (sym (same i l) ∙ none_found p lo hi q (lo + i) (omega arith) (omega arith)))
+
+-- the same over pairs from two lists
+module _ {X Y : Type 0} (t : X × Y → Bool) (d : X) (e : Y) (xs : List X) (ys : List Y) where
+  pub pairs_some : (p : ℕ → Bool) (lo hi : ℕ) → lo + min (length xs) (length ys) ≡ hi
+      → ((i : ℕ) → i < length xs → i < length ys → p (lo + i) ≡ not (t (get_or xs i d, get_or ys i e)))
+      → (b : Bool) → fold (λ f q. f && t q) b (zip xs ys) ≡ b && not (some lo hi p)
+  pairs_some p lo hi long same b =
+      let n = length-zip xs ys in
+      kept_all t (zip xs ys) b
+      ∙ ap (λ (r : Bool). b && r)
+      (all_some t (d, e) (zip xs ys) p lo hi (rw n long)
+      (λ i l.
+      let first : i < length xs = omega (arith, n, min-le_left (length xs) (length ys)) in
+      let second : i < length ys = omega (arith, n, min-le_right (length xs) (length ys)) in
+      same i first second ∙ ap (λ (q : X × Y). not (t q)) (sym (get_or-zip xs ys i (d, e) first second))))
+
+-- what `position` answers in a list
+module _ {X : Type 0} (t : X → Bool) (d : X) (xs : List X) where
+  pub position_seeks : (r : Option ℕ)
+      → MatchOption r (AllWithin (λ x. t x ≡ false) xs 0 (length xs)) (λ i. (i < length xs) × HoldsAt (λ x. t x ≡ true) xs i × AllWithin (λ x. t x ≡ false) xs 0 i)
+      → unwrap_or r (length xs) ≡ seek 0 (length xs) (λ i. t (get_or xs i d))
+  position_seeks None h =
+      nowhere_found (λ i. t (get_or xs i d)) 0 (length xs) (omega arith) (λ i g l. h i d g l)
+  position_seeks (Some i) h =
+      seek_is (λ j. t (get_or xs j d)) 0 (length xs) i
+      (record { low = omega arith; high = omega (arith, h.0); before = λ j g l. h.2 j d g l; found = λ l. h.1 d })

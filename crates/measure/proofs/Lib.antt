@@ -1,4 +1,4 @@
--- An answered interval is one of two cases; what is read in place; the length that is stored.
+-- An answered interval is one of two cases; the length, summed or stored.
 pub mod Apart
-pub mod Walked
 pub mod Stored
+pub mod Walked

@@ -1,41 +1,46 @@
--- The length that a record stores, as it is answered. Assumes nothing.
-use mathlib.Core.Path.{◌≡◌, sym, ap, ◌∙◌, subst}
-use mathlib.Core.Bool.{not}
-use mathlib.Core.List.{List, [], ◌∷◌}
-use lib.Dec.{T}
-use lib.Ieee.{Float, binary64, fits}
+-- The length of a curve as it is answered, summed or stored. Assumes nothing.
+use mathlib.Core.Path.{◌≡◌, sym, ap, ◌∙◌}
+use mathlib.Core.Bool.{true, false, not}
+use mathlib.Core.List.{[], ◌∷◌}
+use lib.Ieee.{Float}
 use lib.Ieee.Scale.{finite}
-use mir.Val.{Val}
-use denote.Shadow.{shadow}
-use denote.Struct.Declared.{row}
-use Rattle.refusal.specs.declared.Refusal.{Refusal}
-use Rattle.refusal.specs.Refusals.{first_of, none}
+use Rattle.std.proofs.Common.{Option, Some, None, IfSome, true≢false}
+use Rattle.refusal.specs.Refusals.{Verdict, first_of, refusal, none}
 use Rattle.refusal.proofs.Rows.{Passed}
-use Rattle.outcome.specs.Told.{Values, telling}
-use Rattle.outcome.proofs.Doors.{untold, tells, left-told, refused_told, passed_told, after-told, pass_told, done-told}
-use Rattle.curve.specs.declared.Curve.{Curve}
-use Rattle.curve.specs.Record.{by_record}
-use Rattle.curve.specs.contracts.Curve.{the_type}
-use Rattle.curve.proofs.Recheck.{record_sound, length_is, length_finite}
-use Rattle.measure.specs.Measure.{length_answer}
+use Rattle.outcome.specs.Told.{Values}
+use Rattle.outcome.proofs.Doors.{untold, tells, left-told, refused_told, passed_told, after-told, stop_told, pass_told, done-told}
+use Rattle.shape.specs.Offered.{Offered}
+use Rattle.shape.proofs.Sound.{Sound}
+use Rattle.curve.specs.Record.{length_in}
+use Rattle.measure.specs.Measure.{length_answer, stored_answer}
 
--- it is a double, from its type
-pub stored_double : (k : Curve) (vs : List Val) → shadow ((row the_type).own_val k vs) → T (fits binary64 k.length)
-stored_double k vs h = let o = h.1.1 in subst T (sym o.1.1.0.1) tt
+abbrev Answered : Offered → Option Float → Values → Type 0
+Answered who stored v = record { answer : v ≡ length_answer who; stored : v ≡ stored_answer who stored }
 
-module _ (c : Curve) where
-  pub length_refused : {r : Refusal} → r ≡ first_of (by_record c).rules → (r.number ≡ 0 → ⊥)
-      → (untold r ≡ length_answer (by_record c)) × (untold r ≡ telling (by_record c).rules (c.length ∷ []))
+abbrev number : Float → Values
+number x = record { refusal = none; values = x ∷ [] }
+
+-- a rule of the curve applies
+pub length_refused : (who : Offered) (stored : Option Float) {r : Verdict} → r ≡ first_of who.rules → (r.number ≡ 0 → ⊥) → Answered who stored (untold r)
+unfolding length_answer
+length_refused who (Some l) e h = record { answer = tells (refused_told _ _ e h); stored = tells (left-told _ e h) }
+length_refused who None e h = record { answer = tells (refused_told _ _ e h); stored = tells (refused_told _ _ e h) }
+
+-- none does
+module _ (who : Offered) (s : Sound who) (p : Passed who.rules) {length : Float} (sum : length ≡ length_in who.shape) where
+  wild : {r : Verdict} → finite length ≡ false → r ≡ refusal 15 → untold r ≡ length_answer who
   unfolding length_answer
-  length_refused e h = (tells (refused_told _ _ e h), tells (left-told _ e h))
+  wild h e = tells (after-told who.rules s.counted p (stop_told 14 e (ap not (ap finite (sym sum) ∙ h))))
 
-  pub length-told : T (fits binary64 c.length) → Passed (by_record c).rules → let v : Values = record { refusal = none; values = c.length ∷ [] } in
-      (v ≡ length_answer (by_record c)) × (v ≡ telling (by_record c).rules (c.length ∷ []))
+  tame : finite length ≡ true → number length ≡ length_answer who
   unfolding length_answer
-  length-told f z =
-      let counted = (record_sound c).counted in
-      let is = length_is c f z in
-      let tame = ap not (sym (ap finite is) ∙ length_finite c z) in (
-        ap (λ (x : Float). record { refusal = none; values = x ∷ [] }) is ∙ tells (after-told (by_record c).rules counted z (pass_told 15 tame done-told)),
-        tells (passed_told (by_record c).rules counted z done-told),
-      )
+  tame h = ap number sum ∙ tells (after-told who.rules s.counted p (pass_told 15 (ap not (ap finite (sym sum) ∙ h)) done-told))
+
+  pub length_wild : (stored : Option Float) {r : Verdict} → IfSome stored (λ l. length ≡ l) → IfSome stored (λ l. finite l ≡ true)
+      → finite length ≡ false → r ≡ refusal 15 → Answered who stored (untold r)
+  length_wild (Some l) k f h e = absurd (true≢false (sym f ∙ ap finite (sym k) ∙ h))
+  length_wild None k f h e = record { answer = wild h e; stored = wild h e }
+
+  pub length_told : (stored : Option Float) → IfSome stored (λ l. length ≡ l) → finite length ≡ true → Answered who stored (number length)
+  length_told (Some l) k h = record { answer = tame h; stored = ap number k ∙ tells (passed_told who.rules s.counted p done-told) }
+  length_told None k h = record { answer = tame h; stored = tame h }

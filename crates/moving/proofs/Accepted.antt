@@ -19,7 +19,7 @@ use Rattle.shape.proofs.Sound.{AllFinite, other_points}
 use Rattle.shape.proofs.With.{with_passed}
 use Rattle.polygon.proofs.Corners.{same_length}
 use Rattle.curve.specs.declared.Curve.{Curve}
-use Rattle.curve.specs.declared.Built.{Built}
+use Rattle.curve.specs.Build.{Built}
 use Rattle.curve.specs.Record.{length_in, shape_in, record_rules, by_record}
 use Rattle.curve.proofs.Recheck.{record_sound, record_parts, measured_passes}
 use Rattle.curve.proofs.Builds.{built_passed, built_curve}

@@ -11,15 +11,14 @@ use lib.Dec.{ltb}
 use lib.ListN.{length, take, length-take}
 use lib.Ieee.{Float}
 use Rattle.meaning.proofs.Tests.{or_left, or_right}
-use Rattle.refusal.specs.declared.Refusal.{Refusal}
-use Rattle.refusal.specs.Refusals.{Row, passes}
+use Rattle.refusal.specs.Refusals.{Verdict, Row, passes}
 use Rattle.refusal.proofs.Rows.{Passed, number_of}
 use Rattle.buffer.specs.Pasted.{pasted}
 use Rattle.outcome.specs.Outcome.{answering}
 use Rattle.outcome.proofs.Doors.{passes_true, passes_false, put_first}
 use Rattle.shape.proofs.Sound.{AllFinite}
 use Rattle.curve.specs.declared.Curve.{Curve}
-use Rattle.curve.specs.declared.Built.{Built}
+use Rattle.curve.specs.Build.{Built}
 use Rattle.curve.specs.Record.{record_rules}
 use Rattle.curve.proofs.Recheck.{record_sound}
 use Rattle.curve.proofs.Builds.{built-refusal, built_passed, built_curve}
@@ -68,13 +67,19 @@ module _ (c : Curve) (i : ℕ) (x y : Float) (xs ys : List Float) (l : Float) wh
         ] in
         λ k. moved_out (built-refusal _ _ is k) (first k) (second k) (third k)
 
+    pub refused_into : (b.refusal.number ≡ 0 → ⊥) → moved_out b.refusal xs ys l ≡ moved_into c i x y xs ys l
+    unfolding answering
+    refused_into h =
+        let none = passes_false rules (λ z. h (number_of (built-refusal _ _ is) ∙ z)) in
+        rw none (ap (λ (v : Verdict). moved_out v xs ys l) (built-refusal _ _ is))
+
   -- numbers that were written stand at the front
   front : Passed rules → (numbers out : List Float) → c.points ≤ length numbers → take c.points (answering rules numbers c.points out).out ≡ take c.points numbers
   unfolding answering
   front z numbers out h = rw (passes_true rules z) (put_first c.points c.points out numbers (le_refl c.points) h)
 
   -- an outcome that is no refusal
-  module _ {r : Refusal} {xs' ys' : List Float} {l' : Float} (e : moved_out r xs' ys' l' ≡ moved_into c i x y xs ys l) (z : r.number ≡ 0) where
+  module _ {r : Verdict} {xs' ys' : List Float} {l' : Float} (e : moved_out r xs' ys' l' ≡ moved_into c i x y xs ys l) (z : r.number ≡ 0) where
     passed : Passed rules
     passed = number_of (sym (ap (λ (o : MovedOut). o.refusal) e)) ∙ z
 

@@ -7,14 +7,13 @@ use borrow.Author.Tests.{lt-ltb, le-ltb}
 use lib.Dec.{T, ltb}
 use lib.Ieee.{Float}
 use lib.Ieee.Scale.{finite}
-use Rattle.refusal.specs.declared.Refusal.{Refusal}
-use Rattle.refusal.specs.Refusals.{Row, row, first_of, refusal}
+use Rattle.refusal.specs.Refusals.{Verdict, Row, row, first_of, refusal}
 use Rattle.refusal.proofs.Rows.{number_of, numbered, passed_none}
 use Rattle.outcome.specs.Outcome.{either_wild}
 use Rattle.shape.specs.Offered.{with11}
 use Rattle.shape.proofs.With.{with_numbered}
 use Rattle.curve.specs.declared.Curve.{Curve}
-use Rattle.curve.specs.declared.Built.{Built}
+use Rattle.curve.specs.Build.{Built}
 use Rattle.curve.specs.Record.{by_record}
 use Rattle.curve.proofs.Recheck.{record_sound}
 use Rattle.curve.proofs.Builds.{unbuilt, made, Makes, makes, stop_made, pass_made, done_made, refused_made, after_made}
@@ -27,7 +26,7 @@ checks c x y = with11 (either_wild x y) (by_record c).rules
 pub numbered_checks : (c : Curve) (x y : Float) → T (numbered (checks c x y))
 numbered_checks c x y = with_numbered (either_wild x y) (by_record c).rules (record_sound c).counted
 
-module _ (c : Curve) (i : ℕ) (x y : Float) (short : Bool) {r : Refusal} (known : r ≡ first_of (checks c x y)) where
+module _ (c : Curve) (i : ℕ) (x y : Float) (short : Bool) {r : Verdict} (known : r ≡ first_of (checks c x y)) where
   abbrev new : Curve
   new = moved c i x y
 

@@ -2,15 +2,13 @@
 use Rattle.std.specs.Prelude.{Bool, not, ◌||◌, cond, List, [], ◌∷◌, ◌++◌, ℕ, ltb, length, set, Float}
 use Rattle.std.specs.Float.Ieee.Scale.{finite}
 use Rattle.meaning.specs.Scalar.{plain}
-use Rattle.refusal.specs.declared.Refusal.{Refusal}
-use Rattle.refusal.specs.Refusals.{Row, row, first_of, passes}
+use Rattle.refusal.specs.Refusals.{Verdict, Row, row, first_of, passes}
 use Rattle.outcome.specs.Outcome.{either_wild, answering}
 use Rattle.shape.specs.Offered.{with11}
 use Rattle.polygon.specs.Polygon.{length_of}
 use Rattle.curve.specs.declared.Curve.{Curve}
-use Rattle.curve.specs.declared.Built.{Built}
 use Rattle.curve.specs.Record.{by_record}
-use Rattle.curve.specs.Build.{building}
+use Rattle.curve.specs.Build.{Built, building}
 
 -- the curve with control point i at (x, y): that point and the length are new, and all else is as it was
 abbrev pub moved : Curve → ℕ → Float → Float → Curve
@@ -40,12 +38,12 @@ moved_by c i x y short = building (move_rules c i x y short) (moved c i x y)
 
 -- the refusal, and what was lent afterwards
 pub record MovedOut : Type 0 where
-  pub refusal : Refusal
+  pub refusal : Verdict
   pub xs : List Float
   pub ys : List Float
   pub length : Float
 
-abbrev pub moved_out : Refusal → List Float → List Float → Float → MovedOut
+abbrev pub moved_out : Verdict → List Float → List Float → Float → MovedOut
 moved_out r xs ys l = record { refusal = r; xs = xs; ys = ys; length = l }
 
 -- one of the two has not room for every control point

@@ -11,8 +11,7 @@ use lib.ListN.{length, take, drop, take-append-drop}
 use lib.Seq.{paste, length-take-le, take-append-le}
 use lib.Ieee.{Float}
 use Rattle.buffer.specs.Pasted.{pasted}
-use Rattle.refusal.specs.declared.Refusal.{Refusal}
-use Rattle.refusal.specs.Refusals.{Row, row, first_of, refusal, none, passes}
+use Rattle.refusal.specs.Refusals.{Verdict, Row, row, first_of, refusal, none, passes}
 use Rattle.refusal.proofs.Rows.{Passed, Refused, number_of, numbered, row-applies, row-passes, no_rows, second_decides, first_decides, passed_none}
 use Rattle.outcome.specs.Outcome.{delivery_rules, Outcome, outcome, answering}
 use Rattle.outcome.specs.Told.{Values, telling}
@@ -40,16 +39,16 @@ module _ {numbers : List Float} {k : ℕ} {out : List Float} where
   same_rules e l = record { is = rw e l.is }
 
   -- nothing is written where a rule applies, and all of it where none does
-  pub left : (rules : List Row) {r : Refusal} → r ≡ first_of rules → (r.number ≡ 0 → ⊥) → Leaves rules numbers k out (outcome r out)
+  pub left : (rules : List Row) {r : Verdict} → r ≡ first_of rules → (r.number ≡ 0 → ⊥) → Leaves rules numbers k out (outcome r out)
   unfolding answering
-  left rules e h = record { is = rw (passes_false rules (λ z. h (number_of e ∙ z))) (ap (λ (x : Refusal). outcome x out) e) }
+  left rules e h = record { is = rw (passes_false rules (λ z. h (number_of e ∙ z))) (ap (λ (x : Verdict). outcome x out) e) }
 
-  pub written : (rules : List Row) {r : Refusal} {out' : List Float} → r ≡ first_of rules → Passed rules → out' ≡ paste out 0 numbers k → Leaves rules numbers k out (outcome r out')
+  pub written : (rules : List Row) {r : Verdict} {out' : List Float} → r ≡ first_of rules → Passed rules → out' ≡ paste out 0 numbers k → Leaves rules numbers k out (outcome r out')
   unfolding answering
   written rules e z q = record { is = rw (passes_true rules z) (λ i. outcome (e i) (q i)) }
 
   -- a row applies: its refusal is answered
-  pub stop : (n : ℕ) {b : Bool} {rs : List Row} {r : Refusal} → r ≡ refusal (suc n) → b ≡ true → Leaves (row (suc n) b ∷ rs) numbers k out (outcome r out)
+  pub stop : (n : ℕ) {b : Bool} {rs : List Row} {r : Verdict} → r ≡ refusal (suc n) → b ≡ true → Leaves (row (suc n) b ∷ rs) numbers k out (outcome r out)
   stop n {b} {rs} e h = left (row (suc n) b ∷ rs) (e ∙ sym (row-applies (row (suc n) b) rs h)) (λ z. suc-ne-zero n (number_of (sym e) ∙ z))
 
   -- a row does not apply
@@ -57,11 +56,11 @@ module _ {numbers : List Float} {k : ℕ} {out : List Float} where
   pass n {b} {rs} h a = same_rules (row-passes (row n b) rs h) a
 
   -- no row is left
-  pub done : {r : Refusal} {out' : List Float} → r ≡ none → out' ≡ paste out 0 numbers k → Leaves [] numbers k out (outcome r out')
+  pub done : {r : Verdict} {out' : List Float} → r ≡ none → out' ≡ paste out 0 numbers k → Leaves [] numbers k out (outcome r out')
   done e q = written [] (e ∙ sym no_rows) (number_of no_rows) q
 
   -- the curve's own rules come first
-  pub refused : (rules rs : List Row) {r : Refusal} → r ≡ first_of rules → (r.number ≡ 0 → ⊥) → Leaves (rules ++ rs) numbers k out (outcome r out)
+  pub refused : (rules rs : List Row) {r : Verdict} → r ≡ first_of rules → (r.number ≡ 0 → ⊥) → Leaves (rules ++ rs) numbers k out (outcome r out)
   refused rules rs e h = left (rules ++ rs) (e ∙ sym (first_decides rules rs (λ z. h (number_of e ∙ z)))) h
 
   pub after : (rules : List Row) {rs : List Row} {o : Outcome} → T (numbered rules) → Passed rules → Leaves rs numbers k out o → Leaves (rules ++ rs) numbers k out o
@@ -87,7 +86,7 @@ delivered_as k out {l} {l'} {o} e a = record { is = subst (λ (x : List Float). 
 pub record Tells (rules : List Row) (values : List Float) (o : Values) : Type 0 where
   pub is : o ≡ telling rules values
 
-abbrev pub untold : Refusal → Values
+abbrev pub untold : Verdict → Values
 untold r = record { refusal = r; values = [] }
 
 module _ {values : List Float} where
@@ -98,11 +97,11 @@ module _ {values : List Float} where
   unfolding telling
   same_telling e l = record { is = rw e l.is }
 
-  pub left-told : (rules : List Row) {r : Refusal} → r ≡ first_of rules → (r.number ≡ 0 → ⊥) → Tells rules values (untold r)
+  pub left-told : (rules : List Row) {r : Verdict} → r ≡ first_of rules → (r.number ≡ 0 → ⊥) → Tells rules values (untold r)
   unfolding telling
   left-told rules e h = record { is = rw (passes_false rules (λ z. h (number_of e ∙ z))) (ap untold e) }
 
-  pub stop_told : (n : ℕ) {b : Bool} {rs : List Row} {r : Refusal} → r ≡ refusal (suc n) → b ≡ true → Tells (row (suc n) b ∷ rs) values (untold r)
+  pub stop_told : (n : ℕ) {b : Bool} {rs : List Row} {r : Verdict} → r ≡ refusal (suc n) → b ≡ true → Tells (row (suc n) b ∷ rs) values (untold r)
   stop_told n {b} {rs} e h = left-told (row (suc n) b ∷ rs) (e ∙ sym (row-applies (row (suc n) b) rs h)) (λ z. suc-ne-zero n (number_of (sym e) ∙ z))
 
   pub pass_told : (n : ℕ) {b : Bool} {rs : List Row} {o : Values} → b ≡ false → Tells rs values o → Tells (row n b ∷ rs) values o
@@ -112,7 +111,7 @@ module _ {values : List Float} where
   unfolding telling first_of
   done-told = record { is = refl }
 
-  pub refused_told : (rules rs : List Row) {r : Refusal} → r ≡ first_of rules → (r.number ≡ 0 → ⊥) → Tells (rules ++ rs) values (untold r)
+  pub refused_told : (rules rs : List Row) {r : Verdict} → r ≡ first_of rules → (r.number ≡ 0 → ⊥) → Tells (rules ++ rs) values (untold r)
   refused_told rules rs e h = left-told (rules ++ rs) (e ∙ sym (first_decides rules rs (λ z. h (number_of e ∙ z)))) h
 
   pub after-told : (rules : List Row) {rs : List Row} {o : Values} → T (numbered rules) → Passed rules → Tells rs values o → Tells (rules ++ rs) values o

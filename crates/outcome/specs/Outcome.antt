@@ -5,8 +5,7 @@ use Rattle.std.specs.Float.Ieee.Scale.{finite}
 use Rattle.meaning.specs.Scalar.{plain}
 use Rattle.meaning.specs.Table.{at1}
 use Rattle.meaning.specs.Search.{some}
-use Rattle.refusal.specs.declared.Refusal.{Refusal}
-use Rattle.refusal.specs.Refusals.{Row, row, first_of, passes}
+use Rattle.refusal.specs.Refusals.{Verdict, Row, row, first_of, passes}
 
 -- one of the first k numbers is not finite
 abbrev pub some_wild : List Float → ℕ → Bool
@@ -22,10 +21,10 @@ delivery_rules numbers k out = row 14 (ltb (length out) k) ∷ row 15 (some_wild
 
 -- the refusal, and the slice afterwards
 pub record Outcome : Type 0 where
-  pub refusal : Refusal
+  pub refusal : Verdict
   pub out : List Float
 
-abbrev pub outcome : Refusal → List Float → Outcome
+abbrev pub outcome : Verdict → List Float → Outcome
 outcome r out = record { refusal = r; out = out }
 
 -- by these rules: where nothing is refused, the first k of the numbers stand at the front of the slice

@@ -1,19 +1,17 @@
--- What a call answers that has numbers for an answer, or a refusal: the enums `Told` and `Domain` of the code, case by case.
-use Rattle.std.specs.Prelude.{cond, List, [], ◌∷◌, Float}
+-- What a call answers that has numbers for an answer, or a refusal.
+use Rattle.std.specs.Prelude.{cond, List, [], ◌∷◌, Float, Result, Ok, Err}
 use Rattle.refusal.specs.declared.Refusal.{Refusal}
-use Rattle.refusal.specs.Refusals.{Row, first_of, passes, none}
-use Rattle.outcome.specs.declared.Told.{Told}
-use Rattle.outcome.specs.declared.Told.TheVariants.{Is, Refused}
+use Rattle.refusal.specs.Refusals.{Verdict, refusal, number_by, Row, first_of, passes, none}
 
 -- the refusal, and the values where there is none
 pub record Values : Type 0 where
-  pub refusal : Refusal
+  pub refusal : Verdict
   pub values : List Float
 
--- each case of the enum
-abbrev pub told : Told → Values
-told (Is x) = record { refusal = none; values = x ∷ [] }
-told (Refused r) = record { refusal = r; values = [] }
+-- one number, case by case
+abbrev pub told : Result Float Refusal → Values
+told (Ok x) = record { refusal = none; values = x ∷ [] }
+told (Err r) = record { refusal = refusal (number_by r); values = [] }
 
 -- by these rules
 unfoldable pub telling : List Row → List Float → Values

@@ -1,3 +1,2 @@
 -- Values with partials: what they are and what each operation makes of them.
 pub mod Dual
-pub mod Rule

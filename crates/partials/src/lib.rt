@@ -1,118 +1,68 @@
 // A value with its partials, and the operations on it: the original's `Dv`, with an array of 27 for its vector.
 #![tactic(auto)]
 
-ghost use Rattle.std.specs.Prelude.{◌≡◌, ◌≤◌, ◌<◌, min, max};
-ghost use Rattle.std.specs.Float.{binary64};
-ghost use Rattle.std.specs.Float.Ieee.{mul};
-ghost use Rattle.partials.specs.Dual.{part_at, part_of, partials, zip_dv, map_dv, cst_dv, var_dv, add_dv, sub_dv, mul_dv, div_dv, neg_dv, root_dv, overshoot_dv, fine_dv};
-ghost use Rattle.partials.specs.Rule.{rule_of};
+ghost use Rattle.std.specs.Prelude.{◌≡◌, ◌≤◌, ℕ, Float};
+ghost use Rattle.partials.specs.Dual.{count_of, part_of, partials, zip_dv, map_dv, cst_dv, var_dv, add_dv, sub_dv, mul_dv, div_dv, neg_dv, root_dv, overshoot_dv, fine_dv, dual};
+
+use scalar::Scalar;
+use std::array;
+use std::ops::{Add, Div, Mul, Neg, Sub};
 
 // The value is v. Its partial with respect to variable k is g[k], for each k below n; there are no others.
-#[derive(Clone, Copy)]
+// Stays: there is no heap, so that the partials are an array with their number beside it.
+#[derive(Clone, Copy, Debug)]
 pub struct Dv {
     pub v: f64,
     pub g: [f64; 27],
     pub n: usize,
 }
 
-// How an operation puts two partials together.
-#[derive(Clone, Copy)]
-pub enum Rule {
-    Add,
-    Sub,
-    Mul,
-    Div,
-}
-
-// A count, read as 27 where it is larger.
-fn counted(n: usize) -> usize
-    ensures { (result ≡ min n 27) × (result ≤ 27) }
+// n partials, f of each place, and +0.0 in the others of the 27.
+#[inline]
+fn partials<F: Fn(usize) -> f64>(n: usize, f: F) -> [f64; 27]
+    requires few { n ≤ 27 }
+    requires callable { F.IsAlwaysCallable f }
+    ensures { (h : ℕ → Float) → ((k : ℕ) (x : Float) → F.post f k x → x ≡ h k) → result ≡ partials n h }
 {
-    if n <= 27 {
-        return n;
-    }
-    27
+    array::from_fn(|k| if k < n { f(k) } else { 0.0 })
 }
 
-// The larger of two counts.
-fn longer(a: usize, b: usize) -> usize
-    requires { (a ≤ 27) × (b ≤ 27) }
-    ensures { (result ≡ max a b) × (result ≤ 27) }
-{
-    if a <= b {
-        return b;
-    }
-    a
-}
-
-// Partial k of n that stand in g: a missing one reads as +0.0.
-fn part(g: &[f64; 27], n: usize, k: usize) -> f64
-    requires { n ≤ 27 }
-    ensures { result ≡ part_at g.now n k }
-{
-    if k < n {
-        return g[k];
-    }
-    0.0
-}
-
-// The rule for partials x and y of the values a and b.
-fn joined(rule: Rule, a: f64, b: f64, x: f64, y: f64) -> f64
-    ensures { result ≡ rule_of rule a b x y }
-{
-    match rule {
-        Rule::Add => x + y,
-        Rule::Sub => x - y,
-        Rule::Mul => x * b + a * y,
-        Rule::Div => x / b - a * y / (b * b),
-    }
-}
-
-// The first n partials by a rule.
-fn zipped(rule: Rule, a: Dv, b: Dv, n: usize) -> [f64; 27]
-    requires { n ≤ 27 }
-    ensures { result ≡ partials n (λ k. rule_of rule a.v b.v (part_of a k) (part_of b k)) }
-{
-    let av = a.v;
-    let ag = a.g;
-    let an = counted(a.n);
-    let bv = b.v;
-    let bg = b.g;
-    let bn = counted(b.n);
-    let mut g = [0.0; 27];
-    for k in 0..n {
-        let x = part(&ag, an, k);
-        let y = part(&bg, bn, k);
-        g[k] = joined(rule, av, bv, x, y);
-    }
-    g
-}
-
-// The value v, with partials by a rule as far as the longer of a and b reaches.
+// The value v, with f of the partials of a and b as far as the longer of the two reaches.
 // Corresponds to spline.rs: Dv::zip.
-fn zip(rule: Rule, v: f64, a: Dv, b: Dv) -> Dv
-    ensures { result ≡ zip_dv (rule_of rule a.v b.v) v a b }
+#[inline]
+fn zip<F: Fn(f64, f64) -> f64>(v: f64, a: &Dv, b: &Dv, f: F) -> Dv
+    requires { F.IsAlwaysCallable f }
+    ensures { (h : Float → Float → Float) → ((x y r : Float) → F.post f x y r → r ≡ h x y) → result ≡ zip_dv h v a.now b.now }
 {
-    let n = longer(counted(a.n), counted(b.n));
-    let g = zipped(rule, a, b, n);
-    Dv { v, g, n }
-}
-
-// Each of n partials times f.
-fn scaled(a: &[f64; 27], n: usize, f: f64) -> [f64; 27]
-    requires { n ≤ 27 }
-    ensures { result ≡ partials n (λ k. mul binary64 (part_at a.now n k) f) }
-{
-    let mut g = [0.0; 27];
-    for k in 0..n {
-        g[k] = part(a, n, k) * f;
+    let n = a.count().max(b.count());
+    Dv {
+        v,
+        g: partials(n, |k| f(a.part(k), b.part(k))),
+        n,
     }
-    g
 }
 
 impl Dv {
+    // How many partials there are: a count above 27 reads as 27.
+    fn count(&self) -> usize
+        ensures { (result ≡ count_of self.now) × (result ≤ 27) }
+    {
+        self.n.min(27)
+    }
+
+    // Partial k: a missing one reads as +0.0.
+    pub fn part(&self, k: usize) -> f64
+        ensures { result ≡ part_of self.now k }
+    {
+        if k < self.count() {
+            return self.g[k];
+        }
+        0.0
+    }
+
     // The constant x: it has no partials.
     // Corresponds to spline.rs: Scalar::cst of Dv.
+    #[tactic(auto, unfolding(crate::specs::Dual::cst_dv))]
     pub fn cst(x: f64) -> Dv
         ensures { result ≡ cst_dv x }
     {
@@ -125,6 +75,7 @@ impl Dv {
 
     // Variable i of xs, with the partial 1.0 with respect to itself; +0.0 with no partials where there is no such variable.
     // Corresponds to spline.rs: Dv::var.
+    #[tactic(auto, unfolding(crate::specs::Dual::var_dv))]
     pub fn var(xs: &[f64], i: usize) -> Dv
         ensures { result ≡ var_dv xs.now i }
     {
@@ -143,59 +94,22 @@ impl Dv {
         }
     }
 
-    // self + o.
-    // Corresponds to spline.rs: Add::add of Dv.
-    pub fn add(self, o: Dv) -> Dv
-        ensures { result ≡ add_dv self o }
-    {
-        zip(Rule::Add, self.v + o.v, self, o)
-    }
-
-    // self - o.
-    // Corresponds to spline.rs: Sub::sub of Dv.
-    pub fn sub(self, o: Dv) -> Dv
-        ensures { result ≡ sub_dv self o }
-    {
-        zip(Rule::Sub, self.v - o.v, self, o)
-    }
-
-    // self * o.
-    // Corresponds to spline.rs: Mul::mul of Dv.
-    pub fn mul(self, o: Dv) -> Dv
-        ensures { result ≡ mul_dv self o }
-    {
-        zip(Rule::Mul, self.v * o.v, self, o)
-    }
-
-    // self / o.
-    // Corresponds to spline.rs: Div::div of Dv.
-    pub fn div(self, o: Dv) -> Dv
-        ensures { result ≡ div_dv self o }
-    {
-        zip(Rule::Div, self.v / o.v, self, o)
-    }
-
     // The value v, with self's partials times f.
     // Corresponds to spline.rs: Dv::map.
     pub fn map(self, v: f64, f: f64) -> Dv
         ensures { result ≡ map_dv v f self }
     {
-        let a = self.g;
-        let n = counted(self.n);
-        let g = scaled(&a, n, f);
-        Dv { v, g, n }
-    }
-
-    // -self.
-    // Corresponds to spline.rs: Neg::neg of Dv.
-    pub fn neg(self) -> Dv
-        ensures { result ≡ neg_dv self }
-    {
-        self.map(-self.v, -1.0)
+        let n = self.count();
+        Dv {
+            v,
+            g: partials(n, |k| self.part(k) * f),
+            n,
+        }
     }
 
     // The root of self: the constant +0.0 at or below 0.
     // Corresponds to spline.rs: Scalar::sqrt of Dv.
+    #[tactic(auto, unfolding(crate::specs::Dual::root_dv))]
     pub fn root(self) -> Dv
         ensures { result ≡ root_dv self }
     {
@@ -208,14 +122,15 @@ impl Dv {
 
     // How far self lies outside lo to hi: the constant +0.0 inside.
     // Corresponds to spline.rs: overshoot.
+    #[tactic(auto, unfolding(crate::specs::Dual::overshoot_dv))]
     pub fn overshoot(self, lo: f64, hi: f64) -> Dv
         ensures { result ≡ overshoot_dv self lo hi }
     {
         if self.v < lo {
-            return self.sub(Dv::cst(lo));
+            return self - Dv::cst(lo);
         }
         if self.v > hi {
-            return self.sub(Dv::cst(hi));
+            return self - Dv::cst(hi);
         }
         Dv::cst(0.0)
     }
@@ -224,14 +139,123 @@ impl Dv {
     pub fn is_fine(self) -> bool
         ensures { result ≡ fine_dv self }
     {
-        let g = self.g;
-        let n = counted(self.n);
         let mut fine = number::is_finite(self.v);
-        for k in 0..n {
-            if !number::is_finite(g[k]) {
-                fine = false;
-            }
+        for x in &self.g[..self.count()] {
+            fine &= number::is_finite(*x);
         }
         fine
+    }
+}
+
+// Corresponds to spline.rs: Add of Dv.
+impl Add for Dv {
+    type Output = Dv;
+
+    ghost add_gives = { λ a b r. r ≡ add_dv a b };
+
+    #[tactic(auto, unfolding(crate::specs::Dual::add_dv))]
+    fn add(self, o: Dv) -> Dv
+        ensures { result ≡ add_dv self o }
+    {
+        zip(self.v + o.v, &self, &o, |x, y| x + y)
+    }
+}
+
+// Corresponds to spline.rs: Sub of Dv.
+impl Sub for Dv {
+    type Output = Dv;
+
+    ghost sub_gives = { λ a b r. r ≡ sub_dv a b };
+
+    #[tactic(auto, unfolding(crate::specs::Dual::sub_dv))]
+    fn sub(self, o: Dv) -> Dv
+        ensures { result ≡ sub_dv self o }
+    {
+        zip(self.v - o.v, &self, &o, |x, y| x - y)
+    }
+}
+
+// Corresponds to spline.rs: Mul of Dv.
+impl Mul for Dv {
+    type Output = Dv;
+
+    ghost mul_gives = { λ a b r. r ≡ mul_dv a b };
+
+    #[tactic(auto, unfolding(crate::specs::Dual::mul_dv))]
+    fn mul(self, o: Dv) -> Dv
+        ensures { result ≡ mul_dv self o }
+    {
+        let (a, b) = (self.v, o.v);
+        zip(a * b, &self, &o, |x, y| x * b + a * y)
+    }
+}
+
+// Corresponds to spline.rs: Div of Dv.
+impl Div for Dv {
+    type Output = Dv;
+
+    ghost div_gives = { λ a b r. r ≡ div_dv a b };
+
+    #[tactic(auto, unfolding(crate::specs::Dual::div_dv))]
+    fn div(self, o: Dv) -> Dv
+        ensures { result ≡ div_dv self o }
+    {
+        let (a, b) = (self.v, o.v);
+        zip(a / b, &self, &o, |x, y| x / b - a * y / (b * b))
+    }
+}
+
+// Corresponds to spline.rs: Neg of Dv.
+impl Neg for Dv {
+    type Output = Dv;
+
+    ghost neg_gives = { λ a r. r ≡ neg_dv a };
+
+    #[tactic(auto, unfolding(crate::specs::Dual::neg_dv))]
+    fn neg(self) -> Dv
+        ensures { result ≡ neg_dv self }
+    {
+        self.map(-self.v, -1.0)
+    }
+}
+
+// What is computed over any scalar is computed over values with partials by these.
+impl Scalar for Dv {
+    ghost ops = { dual };
+
+    fn cst(x: f64) -> Dv {
+        Dv::cst(x)
+    }
+
+    fn val(self) -> f64 {
+        self.v
+    }
+
+    fn plus(self, o: Dv) -> Dv {
+        self + o
+    }
+
+    fn minus(self, o: Dv) -> Dv {
+        self - o
+    }
+
+    fn times(self, o: Dv) -> Dv {
+        self * o
+    }
+
+    fn over(self, o: Dv) -> Dv {
+        self / o
+    }
+
+    fn opp(self) -> Dv {
+        -self
+    }
+
+    fn root(self) -> Dv {
+        self.root()
+    }
+
+    fn is_fine(self) -> bool {
+        self.is_fine()
     }
 }

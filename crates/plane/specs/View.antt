@@ -1,7 +1,6 @@
--- The struct of the code, as a vector over doubles.
-use Rattle.std.specs.Prelude.{Float}
+-- The struct of the code, as a vector.
 use Rattle.plane.specs.declared.P2.{P2}
 use Rattle.plane.specs.Vector.{Vector}
 
-abbrev pub view : P2 → Vector Float
+abbrev pub view : {A : Type 0} → P2 A → Vector A
 view a = record { x = a.x; y = a.y }

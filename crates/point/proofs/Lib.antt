@@ -1,4 +1,3 @@
--- What is answered of a curve that its rules let through, what is promised of its point, and that a program's numbers are doubles.
+-- What is answered of a curve that its rules let through, and what is promised of its point.
 pub mod Answered
 pub mod Promised
-pub mod Typed

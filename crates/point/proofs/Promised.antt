@@ -12,8 +12,7 @@ use lib.Ieee.{Float, nan}
 use lib.Ieee.Scale.{finite}
 use Rattle.meaning.specs.Scalar.{plain}
 use Rattle.meaning.specs.Table.{at1}
-use Rattle.refusal.specs.declared.Refusal.{Refusal}
-use Rattle.refusal.specs.Refusals.{Row, first_of}
+use Rattle.refusal.specs.Refusals.{Verdict, Row, first_of}
 use Rattle.refusal.proofs.Rows.{Passed, number_of, row_passed, second_decides, both_pass}
 use Rattle.outcome.specs.Outcome.{some_wild, Outcome, outcome, answering}
 use Rattle.outcome.proofs.Doors.{passes_true}
@@ -84,7 +83,7 @@ module _ (who : Offered) (s : Sound who) (t : Float) (d : Doubles who.shape t) w
         let h = hull_point c t (s.knots passed) (placed i) order l coordinates_x coordinates_y (λ j g. f j (omega arith)) in
         record { x_in = h.0; y_in = h.1 }
 
-  pub in_hull : (order : ℕ) (out : List Float) {out' : List Float} {r : Refusal} → outcome r out' ≡ point_answer who t order out → InItsHull who t r out'
+  pub in_hull : (order : ℕ) (out : List Float) {out' : List Float} {r : Verdict} → outcome r out' ≡ point_answer who t order out → InItsHull who t r out'
   unfolding point_answer answering
   in_hull order out {out'} {r} a z i =
       let all = ap (λ (o : Outcome). o.refusal.number) (sym a) ∙ number_of z in
@@ -97,7 +96,7 @@ module _ (who : Offered) (s : Sound who) (t : Float) (d : Doubles who.shape t) w
       rw (w, written out (point_orders c t order) (numbers_for order) 0 m (omega arith), written out (point_orders c t order) (numbers_for order) 1 m (omega arith))
       (front parts.0 order q.low i (λ j h. each_finite (point_orders c t order) (numbers_for order) q.tame j (omega arith)))
 
-  pub tangent_in_hull : (out : List Float) {out' : List Float} {r : Refusal} → outcome r out' ≡ tangent_answer who t out → InItsHull who t r out'
+  pub tangent_in_hull : (out : List Float) {out' : List Float} {r : Verdict} → outcome r out' ≡ tangent_answer who t out → InItsHull who t r out'
   unfolding tangent_answer answering tangent_numbers
   tangent_in_hull out {out'} {r} a z i =
       let all = ap (λ (o : Outcome). o.refusal.number) (sym a) ∙ number_of z in
@@ -107,7 +106,7 @@ module _ (who : Offered) (s : Sound who) (t : Float) (d : Doubles who.shape t) w
       rw (w, written out (tangent_numbers c t) 4 0 (omega arith) (omega arith), written out (tangent_numbers c t) 4 1 (omega arith) (omega arith))
       (front parts.0 1 (omega arith) i (two-fine c t fine))
 
-  pub never_refused : (order : ℕ) (out : List Float) {out' : List Float} {r : Refusal} → outcome r out' ≡ point_answer who t order out
+  pub never_refused : (order : ℕ) (out : List Float) {out' : List Float} {r : Verdict} → outcome r out' ≡ point_answer who t order out
       → NeverRefused who t order out r
   unfolding point_answer answering first_of
   never_refused order out a z b alone room =
@@ -121,16 +120,16 @@ module _ (who : Offered) (s : Sound who) (t : Float) (d : Doubles who.shape t) w
 
   -- ---- with the answer, as the contracts have them
 
-  pub point_promised : (order : ℕ) (out : List Float) {out' : List Float} {r : Refusal} → outcome r out' ≡ point_answer who t order out
+  pub point_promised : (order : ℕ) (out : List Float) {out' : List Float} {r : Verdict} → outcome r out' ≡ point_answer who t order out
       → record { answer : outcome r out' ≡ point_answer who t order out; hull : InItsHull who t r out'; never : NeverRefused who t order out r }
   point_promised order out a = record { answer = a; hull = in_hull order out a; never = never_refused order out a }
 
-  pub tangent_promised : (out : List Float) {out' : List Float} {r : Refusal} → outcome r out' ≡ tangent_answer who t out
+  pub tangent_promised : (out : List Float) {out' : List Float} {r : Verdict} → outcome r out' ≡ tangent_answer who t out
       → record { answer : outcome r out' ≡ tangent_answer who t out; hull : InItsHull who t r out' }
   tangent_promised out a = record { answer = a; hull = tangent_in_hull out a }
 
 -- a curve that is refused is not accepted, and has no point
-module _ (who : Offered) (t : Float) {out' : List Float} {r : Refusal} (e : r ≡ first_of who.rules) (z : r.number ≡ 0 → ⊥) where
+module _ (who : Offered) (t : Float) {out' : List Float} {r : Verdict} (e : r ≡ first_of who.rules) (z : r.number ≡ 0 → ⊥) where
   pub refused_point : (order : ℕ) (out : List Float) → outcome r out' ≡ point_answer who t order out
       → record { answer : outcome r out' ≡ point_answer who t order out; hull : InItsHull who t r out'; never : NeverRefused who t order out r }
   refused_point order out a = record { answer = a; hull = λ n i. absurd (z (number_of n)); never = λ n b l m. e ∙ n }

@@ -8,8 +8,7 @@ use lib.ListN.{length, get_or}
 use lib.Ieee.{Float}
 use Rattle.meaning.specs.Scalar.{plain}
 use Rattle.meaning.specs.Table.{at1}
-use Rattle.refusal.specs.declared.Refusal.{Refusal}
-use Rattle.refusal.specs.Refusals.{Row, refusal, none, first_of}
+use Rattle.refusal.specs.Refusals.{Verdict, Row, refusal, none, first_of}
 use Rattle.refusal.proofs.Rows.{Passed, number_of, row_passed, second_decides, first_decides, both_pass}
 use Rattle.outcome.specs.Outcome.{Outcome, outcome}
 use Rattle.shape.specs.Offered.{Offered}
@@ -34,13 +33,6 @@ call_fits n order out refusals h =
     let room = room_passed n (numbers_for order) (length out) (length refusals) (row_passed 13 _ [] low.1).0 in
     record { low = ltb-false 4 order low.0; places = room.0; numbers = room.1 }
 
--- orders that are the same at each parameter leave the same
-pub asked_as : (ts : List Float) (order : ℕ) {f g : Float → List Float} → ((t : Float) → f t ≡ g t)
-    → {out out' : List Float} {refusals refusals' : List ℕ} {n : ℕ} → Asked (numbers_for order) (each_of f ts order) out refusals n out' refusals'
-    → Asked (numbers_for order) (each_of g ts order) out refusals n out' refusals'
-asked_as ts order {f} {g} e {out} {out'} {refusals} {refusals'} {n} a =
-    subst (λ (h : Float → List Float). Asked (numbers_for order) (each_of h ts order) out refusals n out' refusals') (λ i t. e t i) a
-
 -- each parameter by itself
 abbrev alone : Offered → List Float → ℕ → ℕ → List Float → Outcome
 alone who ts order k place = point_answer who (at1 plain ts k) order place
@@ -54,13 +46,13 @@ module _ (who : Offered) (ts : List Float) (order : ℕ) (out : List Float) (ref
   rows = call_rows (length ts) order (length out) (length refusals)
 
   -- a rule of the curve applies
-  pub points_refused : {r : Refusal} → r ≡ first_of who.rules → (r.number ≡ 0 → ⊥) → many r out refusals ≡ points_answer who ts order out refusals
+  pub points_refused : {r : Verdict} → r ≡ first_of who.rules → (r.number ≡ 0 → ⊥) → many r out refusals ≡ points_answer who ts order out refusals
   unfolding points_answer
   points_refused e h =
       many_refused (numbers_for order) (alone who ts order) out refusals (who.rules ++ rows) (length ts)
       (e ∙ sym (first_decides who.rules rows (λ z. h (number_of e ∙ z)))) h
 
-  module _ (s : Sound who) (p : Passed who.rules) {r : Refusal} (e : r ≡ first_of (call_rows (length ts) order (length out) (length refusals))) where
+  module _ (s : Sound who) (p : Passed who.rules) {r : Verdict} (e : r ≡ first_of (call_rows (length ts) order (length out) (length refusals))) where
     first : r ≡ first_of (who.rules ++ rows)
     first = e ∙ sym (second_decides who.rules rows s.counted p)
 
@@ -83,7 +75,7 @@ module _ (who : Offered) (ts : List Float) (order : ℕ) (out : List Float) (ref
 
   -- ---- demand 3
 
-  abbrev Promised : Refusal → List Float → List ℕ → Type 0
+  abbrev Promised : Verdict → List Float → List ℕ → Type 0
   Promised r out' refusals' = record {
     answer : many r out' refusals' ≡ points_answer who ts order out refusals;
     hull : EachInItsHull who ts order r out' refusals';
@@ -91,11 +83,11 @@ module _ (who : Offered) (ts : List Float) (order : ℕ) (out : List Float) (ref
   }
 
   -- a refused call has no point
-  pub refused_points : {r : Refusal} {out' : List Float} {refusals' : List ℕ} → (r.number ≡ 0 → ⊥)
+  pub refused_points : {r : Verdict} {out' : List Float} {refusals' : List ℕ} → (r.number ≡ 0 → ⊥)
       → many r out' refusals' ≡ points_answer who ts order out refusals → Promised r out' refusals'
   refused_points h a = record { answer = a; hull = λ z. absurd (h (number_of z)); never = λ z. absurd (h (number_of z)) }
 
-  module _ (s : Sound who) {r : Refusal} {out' : List Float} {refusals' : List ℕ} (a : many r out' refusals' ≡ points_answer who ts order out refusals) where
+  module _ (s : Sound who) {r : Verdict} {out' : List Float} {refusals' : List ℕ} (a : many r out' refusals' ≡ points_answer who ts order out refusals) where
     all_pass : r ≡ none → Passed (who.rules ++ rows)
     unfolding points_answer answering_many
     all_pass z = ap (λ (m : Many). m.refusal.number) (sym a) ∙ number_of z

@@ -1,23 +1,23 @@
 -- One parameter of many: that its place stays as long as it was, and a turn of the loop over them. Assumes nothing.
-use mathlib.Core.Path.{◌≡◌, refl, ap}
-use mathlib.Core.List.{List, []}
-use Prim.Native.Nat.{ℕ, ◌+◌, ◌≤◌, ◌<◌, zero-le}
+use mathlib.Core.Path.{◌≡◌, refl, ap, ◌∙◌}
+use mathlib.Core.List.{List, [], ◌++◌}
+use Prim.Native.Nat.{ℕ, ◌+◌, ◌*◌, ◌≤◌, ◌<◌, zero-le}
 use native.Mathlib.Omega.{arith}
 use borrow.Author.Tests.{eqb-true, ltb-false}
-use lib.ListN.{length, set}
-use lib.Seq.{length-paste}
+use lib.ListN.{length, set, take, drop}
+use lib.Seq.{length-paste, drop-drop}
 use lib.Ieee.{Float}
 use Rattle.meaning.specs.Scalar.{plain}
 use Rattle.meaning.specs.Table.{at1}
 use Rattle.meaning.proofs.Tests.{by_two}
-use Rattle.refusal.specs.Refusals.{first_of, passes}
+use Rattle.refusal.specs.Refusals.{Verdict, first_of, passes}
 use Rattle.refusal.proofs.Rows.{row_passed}
-use Rattle.outcome.specs.Outcome.{answering}
+use Rattle.outcome.specs.Outcome.{outcome, answering}
 use Rattle.outcome.proofs.Wild.{tame_long}
 use Rattle.many.specs.Many.{place_of}
 use Rattle.many.proofs.Asked.{Keeps, Asked, asked-first, asked-long, asked_next}
 use Rattle.point.specs.Point.{numbers_for, point_rows}
-use Rattle.points.specs.Turn.{of_orders, each_of, put_back, Fits}
+use Rattle.points.specs.Turn.{of_orders, each_of, Fits}
 
 -- a place stays as long as it was
 pub keeps_place : (numbers : List Float) (t : Float) (order : ℕ) (place : List Float) → length (of_orders numbers t order place).out ≡ length place
@@ -52,16 +52,22 @@ module _ {orders : Float → List Float} {ts : List Float} {order : ℕ} {out : 
 
   module _ (f : Fits (length ts) order out refusals) {n k : ℕ} {out' : List Float} {refusals' : List ℕ}
       (a : Turned orders ts order out refusals n k out' refusals') (h : k < n) where
-    pub turned_next : {room : List Float} → room ≡ orders (at1 plain ts k) → {next : List Float} {told : List ℕ}
-        → (next ≡ put_back (numbers_for order) k out' (of_orders room (at1 plain ts k) order (place_of (numbers_for order) k out')).out)
-        × (told ≡ set refusals' k (of_orders room (at1 plain ts k) order (place_of (numbers_for order) k out')).refusal.number)
-        → Turned orders ts order out refusals n (k + 1) next told
-    turned_next {room} e {next} {told} c =
+    -- m is how long a place is, as the loop computes it
+    pub turned_next : {room filled : List Float} {r : Verdict} {m : ℕ} → room ≡ orders (at1 plain ts k) → m ≡ numbers_for order
+        → outcome r filled ≡ of_orders room (at1 plain ts k) order (take m (drop (k * numbers_for order) out'))
+        → Turned orders ts order out refusals n (k + 1) (take (k * numbers_for order) out' ++ (filled ++ drop m (drop (k * numbers_for order) out')))
+        (set refusals' k r.number)
+    turned_next {room} {filled} {r} {m} e w c =
         let place = place_of (numbers_for order) k out' in
         let each = each_of orders ts order in
         let keeps = keeps_each orders ts order in
+        let left : outcome r filled ≡ each k place =
+        c ∙ ap (λ (j : ℕ). of_orders room (at1 plain ts k) order (take j (drop (k * numbers_for order) out'))) w
+        ∙ ap (λ (l : List Float). of_orders l (at1 plain ts k) order place) e in
+        let next =
+        ap (λ (l : List Float). take (k * numbers_for order) out' ++ (filled ++ l))
+        (drop-drop m (k * numbers_for order) out' ∙ ap (λ (j : ℕ). drop (k * numbers_for order + j) out') w) in
         let asked =
-        asked_next (numbers_for order) each out refusals (length ts) f.places keeps f.numbers a.asked (omega (arith, a.all))
-        (of_orders room (at1 plain ts k) order place) (ap (λ (l : List Float). of_orders l (at1 plain ts k) order place) e) c.0 c.1 in
+        asked_next (numbers_for order) each out refusals (length ts) f.places keeps f.numbers a.asked (omega (arith, a.all)) (outcome r filled) left next refl in
         let lengths = asked-long (numbers_for order) each out refusals (length ts) f.places keeps f.numbers asked (omega (arith, a.all)) in
         record { all = a.all; low = omega arith; long = lengths.0; numbers = lengths.1; asked = asked }

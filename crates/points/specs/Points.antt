@@ -2,8 +2,7 @@
 use Rattle.std.specs.Prelude.{◌≡◌, List, [], ◌∷◌, ◌++◌, ℕ, ◌<◌, ltb, length, get_or, Float}
 use Rattle.meaning.specs.Scalar.{plain}
 use Rattle.meaning.specs.Table.{at1}
-use Rattle.refusal.specs.declared.Refusal.{Refusal}
-use Rattle.refusal.specs.Refusals.{Row, row, refusal, none}
+use Rattle.refusal.specs.Refusals.{Verdict, Row, row, refusal, none}
 use Rattle.shape.specs.Offered.{Offered}
 use Rattle.many.specs.Many.{place_of, room_row, Many, answering_many}
 use Rattle.hull.specs.Promise.{InItsHull, NeverRefused}
@@ -21,10 +20,10 @@ points_answer who ts order out refusals =
 
 -- ---- demand 3, of each parameter of a call that is not refused
 
-abbrev pub EachInItsHull : Offered → List Float → ℕ → Refusal → List Float → List ℕ → Type 0
+abbrev pub EachInItsHull : Offered → List Float → ℕ → Verdict → List Float → List ℕ → Type 0
 EachInItsHull who ts order r out' refusals' =
     r ≡ none → (k : ℕ) → k < length ts → InItsHull who (at1 plain ts k) (refusal (get_or refusals' k 0)) (place_of (numbers_for order) k out')
 
-abbrev pub NoneRefused : Offered → List Float → ℕ → List Float → Refusal → List ℕ → Type 0
+abbrev pub NoneRefused : Offered → List Float → ℕ → List Float → Verdict → List ℕ → Type 0
 NoneRefused who ts order out r refusals' =
     r ≡ none → (k : ℕ) → k < length ts → NeverRefused who (at1 plain ts k) order (place_of (numbers_for order) k out) (refusal (get_or refusals' k 0))

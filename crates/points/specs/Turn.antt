@@ -1,5 +1,5 @@
 -- Inner: one parameter after the other, past the rules of the curve, with whatever finds the orders at a parameter.
-use Rattle.std.specs.Prelude.{List, ◌++◌, ℕ, ◌+◌, ◌*◌, ◌≤◌, length, take, drop, Float}
+use Rattle.std.specs.Prelude.{List, ℕ, ◌*◌, ◌≤◌, length, Float}
 use Rattle.meaning.specs.Scalar.{plain}
 use Rattle.meaning.specs.Table.{at1}
 use Rattle.outcome.specs.Outcome.{Outcome, answering}
@@ -12,10 +12,6 @@ of_orders numbers t order place = answering (point_rows numbers t order place) n
 -- what each parameter leaves in its place
 abbrev pub each_of : (Float → List Float) → List Float → ℕ → ℕ → List Float → Outcome
 each_of orders ts order k place = of_orders (orders (at1 plain ts k)) (at1 plain ts k) order place
-
--- a slice with these numbers in place k
-abbrev pub put_back : ℕ → ℕ → List Float → List Float → List Float
-put_back w k out place = take (k * w) out ++ (place ++ drop (k * w + w) out)
 
 -- an order that there is, and room for n answers
 pub record Fits (n order : ℕ) (out : List Float) (refusals : List ℕ) : Type 0 where

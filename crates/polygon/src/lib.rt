@@ -11,7 +11,7 @@ ghost use Rattle.polygon.specs.Stepped.{corner_at, corner_in};
 use plane::P2;
 
 // The corner at these places.
-fn corner<'a>(xs: &'a [f64], ys: &'a [f64], at: usize) -> P2
+fn corner<'a>(xs: &'a [f64], ys: &'a [f64], at: usize) -> P2<f64>
     requires { (at < length xs.now) × (at < length ys.now) }
     ensures { view result ≡ record { x = at1 plain xs.now at; y = at1 plain ys.now at } }
 {
@@ -22,6 +22,7 @@ fn corner<'a>(xs: &'a [f64], ys: &'a [f64], at: usize) -> P2
 }
 
 // The sum of the edges of a polygon of n corners.
+// Stays: a corner stands at two places, a step apart from the next, which an iterator over either list would have to skip to.
 fn edges<'a>(n: usize, xs: &'a [f64], ys: &'a [f64], step: usize) -> f64
     requires fact_1 { 1 ≤ n }
     requires fact_2 { step ≤ 2 }
@@ -33,7 +34,7 @@ fn edges<'a>(n: usize, xs: &'a [f64], ys: &'a [f64], step: usize) -> f64
     for i in 1..n {
         let a = corner(xs, ys, step * i);
         let b = corner(xs, ys, step * (i - 1));
-        s = s + a.sub(b).norm();
+        s = s + (a - b).norm();
     }
     s
 }

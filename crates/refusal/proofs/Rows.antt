@@ -7,8 +7,10 @@ use native.Mathlib.Nat.{suc-ne-zero}
 use native.Mathlib.Omega.{arith}
 use lib.Dec.{T}
 use Rattle.meaning.proofs.Tests.{by_two}
+use Rattle.std.specs.Prelude.{◌-◌, get_or, ⊤, Result, Ok, Err, IsErr, IsErrAnd}
 use Rattle.refusal.specs.declared.Refusal.{Refusal}
-use Rattle.refusal.specs.Refusals.{Row, row, first_of, none}
+use Rattle.refusal.specs.declared.Refusal.TheVariants.{OddCoordinates, FewHandles, FewControlPoints, ManyHandles, KnotsWithFitPoints, KnotCount, UnfitKnot, NotClamped, NoInterval, CrowdedKnot, WildCoordinate, WildParameter, TooMuchAsked, ShortSlice, WildOutcome, NoSheet, RecordMismatch}
+use Rattle.refusal.specs.Refusals.{Verdict, refusal, Row, row, first_of, none, number_by, verdict}
 
 -- no row applies
 abbrev pub Passed : List Row → Type 0
@@ -18,8 +20,8 @@ Passed rules = (first_of rules).number ≡ 0
 abbrev pub Refused : List Row → Type 0
 Refused rules = (first_of rules).number ≡ 0 → ⊥
 
-pub number_of : {x y : Refusal} → x ≡ y → x.number ≡ y.number
-number_of e = ap (λ (x : Refusal). x.number) e
+pub number_of : {x y : Verdict} → x ≡ y → x.number ≡ y.number
+number_of e = ap (λ (x : Verdict). x.number) e
 
 -- ---- the first row
 
@@ -114,3 +116,97 @@ both_pass a b h e = by (first_of a).number refl
     by : (m : ℕ) → (first_of a).number ≡ m → Passed a × Passed b
     by zero q = (q, number_of (sym (second_decides a b h q)) ∙ e)
     by (suc m) q = absurd (suc-ne-zero m (sym q ∙ number_of (sym (first_decides a b (λ z. suc-ne-zero m (sym q ∙ z)))) ∙ e))
+
+-- ---- the code's answers
+
+-- the number of a rule is not 0
+pub ruled : (r : Refusal) → number_by r ≡ 0 → ⊥
+ruled OddCoordinates e = suc-ne-zero 0 e
+ruled FewHandles e = suc-ne-zero 1 e
+ruled FewControlPoints e = suc-ne-zero 2 e
+ruled ManyHandles e = suc-ne-zero 3 e
+ruled KnotsWithFitPoints e = suc-ne-zero 4 e
+ruled KnotCount e = suc-ne-zero 5 e
+ruled UnfitKnot e = suc-ne-zero 6 e
+ruled NotClamped e = suc-ne-zero 7 e
+ruled NoInterval e = suc-ne-zero 8 e
+ruled CrowdedKnot e = suc-ne-zero 9 e
+ruled WildCoordinate e = suc-ne-zero 10 e
+ruled WildParameter e = suc-ne-zero 11 e
+ruled TooMuchAsked e = suc-ne-zero 12 e
+ruled ShortSlice e = suc-ne-zero 13 e
+ruled WildOutcome e = suc-ne-zero 14 e
+ruled NoSheet e = suc-ne-zero 15 e
+ruled RecordMismatch e = suc-ne-zero 16 e
+
+-- the rule of a number: so a number has one
+abbrev by_number : ℕ → Refusal
+by_number k =
+    get_or
+    (OddCoordinates ∷ FewHandles ∷ FewControlPoints ∷ ManyHandles ∷ KnotsWithFitPoints ∷ KnotCount
+    ∷ UnfitKnot ∷ NotClamped ∷ NoInterval ∷ CrowdedKnot ∷ WildCoordinate ∷ WildParameter
+    ∷ TooMuchAsked ∷ ShortSlice ∷ WildOutcome ∷ NoSheet ∷ RecordMismatch ∷ [])
+    (k - 1)
+    OddCoordinates
+
+found_again : (r : Refusal) → by_number (number_by r) ≡ r
+found_again OddCoordinates = refl
+found_again FewHandles = refl
+found_again FewControlPoints = refl
+found_again ManyHandles = refl
+found_again KnotsWithFitPoints = refl
+found_again KnotCount = refl
+found_again UnfitKnot = refl
+found_again NotClamped = refl
+found_again NoInterval = refl
+found_again CrowdedKnot = refl
+found_again WildCoordinate = refl
+found_again WildParameter = refl
+found_again TooMuchAsked = refl
+found_again ShortSlice = refl
+found_again WildOutcome = refl
+found_again NoSheet = refl
+found_again RecordMismatch = refl
+
+pub same_rule : (r s : Refusal) → number_by r ≡ number_by s → r ≡ s
+same_rule r s e = sym (found_again r) ∙ ap by_number e ∙ found_again s
+
+-- so a verdict has one answer
+pub verdict_apart : (x y : Result ⊤ Refusal) → verdict x ≡ verdict y → x ≡ y
+verdict_apart (Ok a) (Ok b) e = refl
+verdict_apart (Ok a) (Err s) e = absurd (ruled s (number_of (sym e)))
+verdict_apart (Err r) (Ok a) e = absurd (ruled r (number_of e))
+verdict_apart (Err r) (Err s) e = ap Err (same_rule r s (number_of e))
+
+-- on Err the verdict has a number, on Ok it has none
+module _ {A : Type 0} {x : Result A Refusal} where
+  pub err_number : {r : Refusal} → x ≡ Err r → (verdict x).number ≡ 0 → ⊥
+  err_number {r} e h = ruled r (number_of (ap verdict (sym e)) ∙ h)
+
+  pub ok_number : {a : A} → x ≡ Ok a → (verdict x).number ≡ 0
+  ok_number e = number_of (ap verdict e)
+
+-- an answer that a table decides: on Err a row applies, on Ok none does
+module _ {A : Type 0} {x : Result A Refusal} (rows : List Row) (told : verdict x ≡ first_of rows) where
+  pub err_refused : {r : Refusal} → x ≡ Err r → Refused rows
+  err_refused e h = err_number e (number_of told ∙ h)
+
+  pub ok_none : {a : A} → x ≡ Ok a → first_of rows ≡ none
+  ok_none e = sym told ∙ ap verdict e
+
+  pub ok_passed : {a : A} → x ≡ Ok a → Passed rows
+  ok_passed e = number_of (ok_none e)
+
+  -- where rows come after it, they decide on Ok
+  pub ok_decides : {a : A} → (more : List Row) → T (numbered rows) → x ≡ Ok a → first_of (rows ++ more) ≡ first_of more
+  ok_decides more h e = second_decides rows more h (ok_passed e)
+
+-- what `?` hands on of an answer: the same verdict, whatever rows come after the table
+module _ {A B : Type 0} {x : Result A Refusal} {r : Refusal} (e : x ≡ Err r) where
+  pub handed_on : (y : Result B Refusal) → IsErr y × IsErrAnd y (λ s. s ≡ r) → verdict y ≡ verdict x
+  handed_on (Ok b) h = absurd h.1
+  handed_on (Err s) h = ap (λ (q : Refusal). refusal (number_by q)) h.1 ∙ ap verdict (sym e)
+
+  pub err_decides : (y : Result B Refusal) → IsErr y × IsErrAnd y (λ s. s ≡ r) → (rows more : List Row) → verdict x ≡ first_of rows
+      → verdict y ≡ first_of (rows ++ more)
+  err_decides y h rows more told = handed_on y h ∙ told ∙ sym (first_decides rows more (err_refused rows told e))

@@ -112,24 +112,21 @@ module _ (q : List Float) (given : Bool) (ks : List Float) (passed : Passed (han
     unfolding control_shape
     ys-at k h = nth_listed n k _ dual.off h
 
-    read_at_lem : (p : Piece) → p.knots ≡ listed 0 6 (λ j. cst_dv (at1 plain us (i - 2 + j))) → p.xs ≡ four_of dual (variables_of q) (2 * (i - 3)) 2
-        → p.ys ≡ four_of dual (variables_of q) (2 * (i - 3) + 1) 2 → ReadAt c i p
+    read_at_lem : (p : Piece) → p.span.knots ≡ listed 0 6 (λ j. cst_dv (at1 plain us (i - 2 + j)))
+        → p.span.xs ≡ four_of dual (variables_of q) (2 * (i - 3)) 2 → p.span.ys ≡ four_of dual (variables_of q) (2 * (i - 3) + 1) 2 → ReadAt c i p
     read_at_lem p e x y =
-        record {
-          low = low;
-          high = omega (arith, room.1);
-          six = e ∙ six;
-          xs = x ∙ four c.xs 0 (2 * (i - 3)) xs-at (omega arith);
-          ys = y ∙ four c.ys 1 (2 * (i - 3) + 1) ys-at refl;
-        }
+        let u = e ∙ six in
+        let v = x ∙ four c.xs 0 (2 * (i - 3)) xs-at (omega arith) in
+        let w = y ∙ four c.ys 1 (2 * (i - 3) + 1) ys-at refl in
+        record { low = low; high = omega (arith, room.1); numbers = λ h. record { knots = u h; xs = v h; ys = w h } }
 
   -- ---- what the code reads, of knots u that are these
 
   module _ {u : List Float} (knots_are : u ≡ us) where
     pub control-read : (t : Float) (i : ℕ) (p : Piece) → p.lo ≡ at1 plain u 0 → p.hi ≡ at1 plain u (n + 3)
         → IsSpan u n (clamp_of t p.lo p.hi) i → 3 ≤ i → i < n
-        → p.knots ≡ listed 0 6 (λ j. cst_dv (at1 plain u (i - 2 + j)))
-        → p.xs ≡ four_of dual (variables_of q) (2 * (i - 3)) 2 → p.ys ≡ four_of dual (variables_of q) (2 * (i - 3) + 1) 2 → Read c t p
+        → p.span.knots ≡ listed 0 6 (λ j. cst_dv (at1 plain u (i - 2 + j)))
+        → p.span.xs ≡ four_of dual (variables_of q) (2 * (i - 3)) 2 → p.span.ys ≡ four_of dual (variables_of q) (2 * (i - 3) + 1) 2 → Read c t p
     unfolding control_shape
     control-read t i p l h s g k w x y =
         let lo : p.lo ≡ at1 plain us 0 = l ∙ ap (λ (l : List Float). at1 plain l 0) knots_are in

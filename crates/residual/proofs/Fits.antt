@@ -1,6 +1,6 @@
 -- What is read of a curve through the handles. Assumes nothing.
 use mathlib.Core.Path.{◌≡◌, refl, sym, ap, ◌∙◌}
-use mathlib.Core.Bool.{Bool, true, false}
+use mathlib.Core.Bool.{true, false}
 use mathlib.Core.List.{List, map}
 use Prim.Native.Nat.{ℕ, ◌+◌, ◌-◌, ◌*◌, ◌≤◌}
 use native.Mathlib.Omega.{arith}
@@ -11,6 +11,7 @@ use Rattle.meaning.specs.Scalar.{zero64, one64}
 use Rattle.meaning.specs.Number.{clamp_of}
 use Rattle.meaning.specs.Table.{at1}
 use Rattle.meaning.specs.Search.{listed}
+use Rattle.std.specs.Prelude.{Option, Some, None}
 use Rattle.meaning.proofs.Tests.{by_two}
 use Rattle.meaning.proofs.Filling.{nth_listed, map_listed}
 use Rattle.partials.specs.declared.Dv.{Dv}
@@ -77,26 +78,24 @@ module _ (q : List Float) (c : ℕ) (work : List Float) (counts : List ℕ) (rea
   -- ---- what is read
 
   -- a piece of a curve from 0 to 1
-  abbrev unit : List Dv → List Dv → List Dv → Bool → Piece
-  unit ks xs ys fine = record { lo = zero64; hi = one64; knots = ks; xs = xs; ys = ys; fine = fine }
+  abbrev unit : List Dv → List Dv → List Dv → Piece
+  unit ks xs ys = record { lo = zero64; hi = one64; span = record { knots = ks; xs = xs; ys = ys } }
 
-  fit_read : (t : Float) (ks xs ys : List Dv) (b : Bool) → fit.fine_with q ≡ true
-      → fit.piece_through q (clamp_of t zero64 one64) ≡ record { knots = ks; xs = xs; ys = ys; fine = b } → Read (fit_shape q) t (unit ks xs ys b)
+  fit_read : (t : Float) (ks xs ys : List Dv) → fit.fine_with q ≡ true
+      → fit.piece_through q (clamp_of t zero64 one64) ≡ record { knots = ks; xs = xs; ys = ys; fine = true } → Read (fit_shape q) t (unit ks xs ys)
   unfolding fit_shape fit.piece_through
-  fit_read t ks xs ys b f e =
+  fit_read t ks xs ys f e =
       let i = span_through q (clamp_of t zero64 one64) in
       let s = fit.solution_with q in
       let is : fit.piece_through q (clamp_of t zero64 one64)
       ≡ record { knots = window dual (fit.knots_with q) i; xs = four_of dual s.xs (i - 3) 1; ys = four_of dual s.ys (i - 3) 1; fine = true } = rw f in
       let g = sym e ∙ is in
       let at = span_in_lem (knots_through q) (controls_for q) (clamp_of t zero64 one64) (omega (arith, ready.two)) in
-      let read : ReadAt (fit_shape q) i (unit ks xs ys b) =
+      let read : ReadAt (fit_shape q) i (unit ks xs ys) =
       record {
         low = at.0;
         high = omega (arith, at.1, ready.few);
-        six = ap (λ (x : fit.Piece). x.knots) g;
-        xs = ap (λ (x : fit.Piece). x.xs) g;
-        ys = ap (λ (x : fit.Piece). x.ys) g;
+        numbers = λ h. record { knots = (g h).knots; xs = (g h).xs; ys = (g h).ys };
       } in
       record {
         first = first-knot;
@@ -109,17 +108,24 @@ module _ (q : List Float) (c : ℕ) (work : List Float) (counts : List ℕ) (rea
       apart = unfold lt of_bits in refl
 
   -- from the answer of the fit
-  module _ (t x : Float) (a : fit-code.Piece) (e : view a ≡ fit.piece_in q c x work counts) (f : x ≡ clamp_of t zero64 one64) where
+  module _ (t x : Float) (a : Option fit-code.Piece) (e : view a ≡ fit.piece_in q c x work counts) (f : x ≡ clamp_of t zero64 one64) where
     through : view a ≡ fit.piece_through q (clamp_of t zero64 one64)
     unfolding fit.piece_in
     through = e ∙ rw able (ap (fit.piece_through q) f)
 
-    verdict : a.fine ≡ fit.fine_with q
+    verdict : (view a).fine ≡ fit.fine_with q
     unfolding fit.piece_through
     verdict = ap (λ (y : fit.Piece). y.fine) through ∙ by_two (fit.fine_with q) (λ h. rw h) (λ h. rw h)
 
-    pub fit_judged : Judged (fit.fine_with q) (fit_shape q) t (unit a.knots a.xs a.ys a.fine)
-    fit_judged = record { verdict = verdict; read = λ h. fit_read t _ _ _ _ h (sym through) }
+    -- there is one
+    pub fit_judged : (p : fit-code.Piece) → a ≡ Some p → Judged (fit.fine_with q) (fit_shape q) t (Some (unit p.knots p.xs p.ys))
+    fit_judged p s =
+        let fine = sym verdict ∙ ap (λ (y : Option fit-code.Piece). (view y).fine) s in
+        (fine, fit_read t _ _ _ fine (sym through ∙ ap view s))
+
+    -- there is none
+    pub fit_unjudged : a ≡ None → Judged (fit.fine_with q) (fit_shape q) t None
+    fit_unjudged s = sym verdict ∙ ap (λ (y : Option fit-code.Piece). (view y).fine) s
 
   -- the slices afterwards
   pub fit_doubles : {w : List Float} → w ≡ fit.doubles_after q c work counts → w ≡ cleared (cells_for Fit q * (c + 1)) zero64 work

@@ -1,10 +1,11 @@
 -- What each form asks of the slices, and what it leaves in them. Assumes nothing.
 use mathlib.Core.Path.{◌≡◌, refl, sym, subst}
-use mathlib.Core.Bool.{Bool, true}
+use mathlib.Core.Bool.{Bool}
 use mathlib.Core.List.{List}
 use Prim.Native.Nat.{ℕ, ◌+◌, ◌*◌}
 use native.Mathlib.Nat.{zero-mul}
 use lib.Ieee.{Float}
+use Rattle.std.specs.Prelude.{Some}
 use Rattle.meaning.specs.Scalar.{zero64}
 use Rattle.refusal.proofs.Rows.{Passed}
 use Rattle.knots.specs.declared.Form.{Form}
@@ -28,10 +29,9 @@ module _ {form : Form} {q : List Float} {given : Bool} {ks : List Float} {c : �
           record { two = (fit_room q given ks s.rules).0; few = s.few; wide = s.wide; narrow = s.narrow; bytes = s.bytes; doubles = s.doubles }
 
 module _ (form : Form) (q : List Float) where
-  pub control-judged : (given : Bool) (ks : List Float) (t : Float) (p : Piece) → form ≡ Control → Read (control_shape q given ks) t p → p.fine ≡ true
-      → Judged (stored_fine form q) (shape_of form q given ks) t p
-  control-judged given ks t p e r f =
-      subst (λ (x : Form). Judged (stored_fine x q) (shape_of x q given ks) t p) (sym e) (record { verdict = f; read = λ h. r })
+  pub control-judged : (given : Bool) (ks : List Float) (t : Float) (p : Piece) → form ≡ Control → Read (control_shape q given ks) t p
+      → Judged (stored_fine form q) (shape_of form q given ks) t (Some p)
+  control-judged given ks t p e r = subst (λ (x : Form). Judged (stored_fine x q) (shape_of x q given ks) t (Some p)) (sym e) (refl, r)
 
   pub control-doubles : (c : ℕ) (work : List Float) → form ≡ Control → work ≡ cleared (cells_for form q * (c + 1)) zero64 work
   control-doubles c work e =

@@ -15,7 +15,8 @@ use Rattle.partials.specs.Dual.{cst_dv, var_dv, overshoot_dv, dual}
 use Rattle.plane.specs.Vector.{Vector, sub_v}
 use Rattle.shape.specs.Shape.{Shape}
 use Rattle.evaluate.specs.Point.{straight_on, beyond_of, order_at}
-use Rattle.evaluate.specs.Piece.{on_window}
+use Rattle.evaluate.specs.declared.Piece as Code
+use Rattle.evaluate.specs.Piece.{on_piece}
 use Rattle.evaluate.proofs.Pieces.{on_window_is, from_window_is}
 use Rattle.residual.specs.declared.Piece.{Piece}
 use Rattle.residual.specs.Curve.{span_in, first_knot, last_knot, three_of, held_at}
@@ -41,30 +42,29 @@ module _ (t lo hi : Float) where
 module _ (c : Shape Dv) (p : Piece) (t : Dv) (r : Read c t.v p) where
   -- past the end x
   from_end : (x : Float) → clamp_of t.v p.lo p.hi ≡ x
-      → straight_on dual (on_window dual p.knots p.xs p.ys (cst_dv x) 1) (cst_dv x) t 0 ≡ beyond_of dual (span_in c) c (cst_dv x) t 0
+      → straight_on dual (on_piece dual p.span (cst_dv x) 1) (cst_dv x) t 0 ≡ beyond_of dual (span_in c) c (cst_dv x) t 0
   unfolding cst_dv
   from_end x e =
       let s = r.span in
-      rw (s.six, s.xs, s.ys) (ap (λ (f : ℕ → Vector Dv). f 0) (from_window_is dual (span_in c) c (cst_dv x) t _ (ap (span_in c) e) s.low s.high))
+      ap (λ (l : Code.Piece Dv). straight_on dual (on_piece dual l (cst_dv x) 1) (cst_dv x) t 0) s.numbers
+      ∙ ap (λ (f : ℕ → Vector Dv). f 0) (from_window_is dual (span_in c) c (cst_dv x) t _ (ap (span_in c) e) s.low s.high)
 
-  pub point_before : lt t.v p.lo ≡ true
-      → straight_on dual (on_window dual p.knots p.xs p.ys (cst_dv p.lo) 1) (cst_dv p.lo) t 0 ≡ order_at dual (span_in c) c t 0 0
+  pub point_before : lt t.v p.lo ≡ true → straight_on dual (on_piece dual p.span (cst_dv p.lo) 1) (cst_dv p.lo) t 0 ≡ order_at dual (span_in c) c t 0 0
   unfolding order_at cst_dv
   point_before e = from_end p.lo (clamp_below _ _ _ e r.apart) ∙ sym (rw (r.first, e))
 
   pub point_past : lt t.v p.lo ≡ false → lt p.hi t.v ≡ true
-      → straight_on dual (on_window dual p.knots p.xs p.ys (cst_dv p.hi) 1) (cst_dv p.hi) t 0 ≡ order_at dual (span_in c) c t 0 0
+      → straight_on dual (on_piece dual p.span (cst_dv p.hi) 1) (cst_dv p.hi) t 0 ≡ order_at dual (span_in c) c t 0 0
   unfolding order_at cst_dv
   point_past e f = from_end p.hi (clamp_above _ _ _ e f) ∙ sym (rw (r.first, e, r.last, f))
 
-  pub point_inside : lt t.v p.lo ≡ false → lt p.hi t.v ≡ false
-      → on_window dual p.knots p.xs p.ys t 0 0 ≡ order_at dual (span_in c) c t 0 0
+  pub point_inside : lt t.v p.lo ≡ false → lt p.hi t.v ≡ false → on_piece dual p.span t 0 0 ≡ order_at dual (span_in c) c t 0 0
   unfolding order_at cst_dv
   point_inside e f =
       let s = r.span in
-      rw (s.six, s.xs, s.ys)
-      (ap (λ (g : ℕ → Vector Dv). g 0) (on_window_is dual (span_in c) c t 0 _ (ap (span_in c) (clamp_inside _ _ _ e f)) s.low s.high)
-      ∙ sym (rw (r.first, e, r.last, f)))
+      ap (λ (l : Code.Piece Dv). on_piece dual l t 0 0) s.numbers
+      ∙ ap (λ (g : ℕ → Vector Dv). g 0) (on_window_is dual (span_in c) c t 0 _ (ap (span_in c) (clamp_inside _ _ _ e f)) s.low s.high)
+      ∙ sym (rw (r.first, e, r.last, f))
 
   -- ---- the residuals, from the point
 

@@ -10,8 +10,7 @@ use lib.Dec.{T, ltb}
 use lib.Ieee.{Float}
 use lib.Ieee.Scale.{finite}
 use Rattle.meaning.proofs.Tests.{or_left, or_right}
-use Rattle.refusal.specs.declared.Refusal.{Refusal}
-use Rattle.refusal.specs.Refusals.{Row, row, first_of, refusal}
+use Rattle.refusal.specs.Refusals.{Verdict, Row, row, first_of, refusal}
 use Rattle.refusal.proofs.Rows.{Passed, number_of, numbered, row-applies, row-passes, row_passed, no_rows}
 use Rattle.refusal.proofs.Rows.{second_decides, first_decides, both_pass, passed_none}
 use Rattle.knots.specs.declared.Form.{Form}
@@ -47,7 +46,7 @@ module _ (form : Form) (q : List Float) (given : Bool) (ks : List Float) (px py 
       unfolding asked_rules
       left = row-passes _ _ (ap not (eq-eqb (length q % 2) 0 even)) ∙ row-passes _ _ (le-ltb 12 (points_in q) few)
 
-      module _ {r : Refusal} (known : r ≡ first_of (handle_rules form q given ks)) where
+      module _ {r : Verdict} (known : r ≡ first_of (handle_rules form q given ks)) where
         pub refused : (r.number ≡ 0 → ⊥) → r ≡ first_of rules
         refused h = known ∙ sym (left ∙ first_decides _ _ (λ z. h (number_of known ∙ z)))
 
@@ -83,24 +82,9 @@ module _ (form : Form) (q : List Float) (given : Bool) (ks : List Float) (px py 
       let few : points_in q ≤ 12 = ltb-false 12 (points_in q) b.0 in
       (omega arith, (both_pass (handle_rules form q given ks) _ (numbered-handles form q given ks) b.1).0)
 
--- ---- a slice is short
+-- ---- none of the slices is short
 
 module _ (cells c doubles bytes three rows : ℕ) where
-  pub short_work : doubles < cells * (c + 1) → true ≡ lacks_of cells c doubles bytes three rows
-  short_work h = sym (rw (lt-ltb _ _ h))
-
-  module _ (a : cells * (c + 1) ≤ doubles) where
-    pub short_counts : bytes < cells → true ≡ lacks_of cells c doubles bytes three rows
-    short_counts h = sym (rw (le-ltb _ _ a, lt-ltb _ _ h))
-
-    module _ (b : cells ≤ bytes) where
-      pub short_three : three < 3 → true ≡ lacks_of cells c doubles bytes three rows
-      short_three h = sym (rw (le-ltb _ _ a, le-ltb _ _ b, lt-ltb _ _ h))
-
-      pub short_rows : 3 ≤ three → ltb rows (3 * c) ≡ lacks_of cells c doubles bytes three rows
-      short_rows h = sym (rw (le-ltb _ _ a, le-ltb _ _ b, le-ltb _ _ h))
-
-  -- none is
   pub all_long : lacks_of cells c doubles bytes three rows ≡ false → (cells * (c + 1) ≤ doubles) × (cells ≤ bytes) × (3 ≤ three) × (3 * c ≤ rows)
   all_long h =
       let one = or_right (ltb doubles (cells * (c + 1))) (ltb bytes cells || (ltb three 3 || ltb rows (3 * c))) h in

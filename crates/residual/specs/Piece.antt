@@ -1,19 +1,17 @@
--- Inner: what is read of a curve for one parameter, whichever form the curve has: the ends of its domain, six knots and four control points. The span is
--- that of the parameter or, past an end, of that end.
-use Rattle.std.specs.Prelude.{◌≡◌, Bool, true, false, List, [], ◌∷◌, ℕ, ◌+◌, ◌-◌, ◌*◌, ◌≤◌, length, Float}
+-- Inner: what is read of a curve for one parameter, whichever form the curve has: the ends of its domain, and what a span reads, which is that of the
+-- parameter or, past an end, of that end.
+use Rattle.std.specs.Prelude.{◌≡◌, Bool, true, false, Option, None, Some, List, ℕ, ◌+◌, ◌*◌, ◌≤◌, length, Float}
 use Rattle.std.specs.Float.Ieee.{lt}
 use Rattle.meaning.specs.Number.{clamp_of}
 use Rattle.partials.specs.declared.Dv.{Dv}
 use Rattle.partials.specs.Dual.{cst_dv, dual}
-use Rattle.basis.specs.Basis.{window}
 use Rattle.refusal.proofs.Rows.{Passed}
 use Rattle.knots.specs.declared.Form.{Form}
 use Rattle.knots.specs.declared.Form.TheVariants.{Fit}
 use Rattle.shape.specs.Shape.{Shape, points_in}
 use Rattle.shape.specs.Rules.{handle_rules}
-use Rattle.evaluate.specs.Piece.{four_of}
+use Rattle.evaluate.specs.Piece.{piece_of}
 use Rattle.residual.specs.declared.Piece.{Piece}
-use Rattle.residual.specs.declared.Three.{Three}
 use Rattle.residual.specs.Curve.{span_in, first_knot, last_knot}
 use Rattle.residual.specs.Residual.{cells_for}
 
@@ -21,9 +19,7 @@ use Rattle.residual.specs.Residual.{cells_for}
 pub record ReadAt (c : Shape Dv) (i : ℕ) (p : Piece) : Type 0 where
   pub low : 3 ≤ i
   pub high : i ≤ 65
-  pub six : p.knots ≡ window dual c.knots i
-  pub xs : p.xs ≡ four_of dual c.xs (i - 3) 1
-  pub ys : p.ys ≡ four_of dual c.ys (i - 3) 1
+  pub numbers : p.span ≡ piece_of dual c i
 
 -- the ends are constants, one not below the other, and the span is that of t
 pub record Read (c : Shape Dv) (t : Float) (p : Piece) : Type 0 where
@@ -31,10 +27,6 @@ pub record Read (c : Shape Dv) (t : Float) (p : Piece) : Type 0 where
   pub last : last_knot c ≡ cst_dv p.hi
   pub apart : lt p.hi p.lo ≡ false
   pub span : ReadAt c (span_in c (clamp_of t p.lo p.hi)) p
-
--- the struct of the code as a list
-abbrev pub in_order : Three → List Dv
-in_order r = r.x ∷ r.y ∷ r.past ∷ []
 
 -- ---- past the rules
 
@@ -56,7 +48,7 @@ pub record Ready (form : Form) (q : List Float) (given : Bool) (ks : List Float)
   pub bytes : cells_for form q ≤ length counts
   pub doubles : cells_for form q * (c + 1) ≤ length work
 
--- the verdict on a curve, and where it is yes what was read of it for t
-pub record Judged (fine : Bool) (c : Shape Dv) (t : Float) (p : Piece) : Type 0 where
-  pub verdict : p.fine ≡ fine
-  pub read : fine ≡ true → Read c t p
+-- what was read of a curve for t, where the verdict on it is yes
+abbrev pub Judged : Bool → Shape Dv → Float → Option Piece → Type 0
+Judged fine c t (Some p) = (fine ≡ true) × Read c t p
+Judged fine c t None = fine ≡ false

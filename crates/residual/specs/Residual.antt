@@ -7,8 +7,7 @@ use Rattle.meaning.specs.Scalar.{zero64}
 use Rattle.meaning.specs.Search.{listed}
 use Rattle.partials.specs.declared.Dv.{Dv}
 use Rattle.partials.specs.Dual.{part_of, dual}
-use Rattle.refusal.specs.declared.Refusal.{Refusal}
-use Rattle.refusal.specs.Refusals.{Row, row, first_of, passes}
+use Rattle.refusal.specs.Refusals.{Verdict, Row, row, first_of, passes}
 use Rattle.knots.specs.declared.Form.{Form}
 use Rattle.outcome.specs.Outcome.{either_wild, answering}
 use Rattle.shape.specs.Shape.{points_in}
@@ -78,10 +77,10 @@ last_rule fine = row 15 (not fine) ∷ []
 
 -- the refusal, and what was lent
 pub record Outcome : Type 0 where
-  pub refusal : Refusal
+  pub refusal : Verdict
   pub after : Lent
 
-abbrev pub outcome : Refusal → List Float → List ℕ → List Float → List Float → Outcome
+abbrev pub outcome : Verdict → List Float → List ℕ → List Float → List Float → Outcome
 outcome r work counts residuals rows = record { refusal = r; after = lent work counts residuals rows }
 
 -- the first n of a list cleared

@@ -1,15 +1,17 @@
 // The residuals of a point held on a curve, with their partials with respect to every number of the handles, of the point, and the parameter.
 #![tactic(auto)]
 
-ghost use Rattle.std.specs.Prelude.{◌≡◌, true, ◌&&◌, List, ◌+◌, ◌-◌, ◌*◌, ◌≤◌, ◌<◌, min, length, Float};
+ghost use Rattle.std.specs.Prelude.{◌≡◌, List, ◌+◌, ◌-◌, ◌*◌, ◌≤◌, ◌<◌, length, Float};
+ghost use Rattle.std.specs.List.{list_all};
 ghost use Rattle.std.proofs.Math.Seq.{paste};
 ghost use Rattle.meaning.specs.Scalar.{plain, zero64};
 ghost use Rattle.meaning.specs.Table.{at1};
 ghost use Rattle.meaning.specs.Search.{listed};
 ghost use Rattle.partials.specs.declared.Dv.{Dv};
-ghost use Rattle.partials.specs.Dual.{part_at, part_of, var_dv, cst_dv, dual};
-ghost use Rattle.plane_partials.specs.View.{view_d};
-ghost use Rattle.refusal.specs.Refusals.{first_of};
+ghost use Rattle.partials.specs.Dual.{part_of, fine_dv, var_dv, cst_dv, dual};
+ghost use Rattle.plane.specs.View.{view};
+ghost use Rattle.refusal.specs.Refusals.{first_of, verdict};
+ghost use Rattle.knots.specs.Given.{given, given_list};
 ghost use Rattle.refusal.proofs.Rows.{Passed};
 ghost use Rattle.knots.specs.declared.Form.TheVariants.{Control, Fit};
 ghost use Rattle.outcome.specs.Outcome as one;
@@ -22,31 +24,20 @@ ghost use Rattle.solve.specs.Stored.{all_fine};
 ghost use Rattle.fit_partials.specs.Variables.{variables_of};
 ghost use Rattle.residual.specs.Curve.{control_shape, fit_shape, shape_of, stored_fine, span_in, three_of, residuals_on};
 ghost use Rattle.residual.specs.Residual.{asked, lent, cells_for, lacks_of, asked_rules, last_rule, outcome, cleared, values_of, rows_of, residual_answer};
-ghost use Rattle.residual.specs.Piece.{Read, Ready, ReadyFit, Judged, in_order};
+ghost use Rattle.residual.specs.Piece.{Read, Ready, ReadyFit, Judged};
 
 use knots::Form;
 use partials::Dv;
-use plane_partials::P2d;
+use plane::P2;
 use refusal::Refusal;
+use std::array;
 
-// What is read of a curve for one parameter: the ends of its domain, the six knots and the four control points of a span, and the verdict on all that
-// the curve's build stored.
+// What is read of a curve for one parameter: the ends of its domain, and what a span reads.
 #[derive(Clone, Copy)]
 struct Piece {
     lo: f64,
     hi: f64,
-    knots: [Dv; 6],
-    xs: [Dv; 4],
-    ys: [Dv; 4],
-    fine: bool,
-}
-
-// The three residuals: the point less that of the curve, and how far the parameter lies past the domain.
-#[derive(Clone, Copy)]
-struct Three {
-    x: Dv,
-    y: Dv,
-    past: Dv,
+    span: evaluate::Piece<Dv>,
 }
 
 // ---- control points
@@ -56,13 +47,7 @@ fn constants(u: &[f64; 70], i: usize) -> [Dv; 6]
     requires { (3 ≤ i) × (i ≤ 65) }
     ensures { result ≡ listed 0 6 (λ j. cst_dv (at1 plain u.now (i - 2 + j))) }
 {
-    let zero = Dv::cst(0.0);
-    let mut w = [zero; 6];
-    for j in 0..6 {
-        let k = Dv::cst(u[i - 2 + j]);
-        w[j] = k;
-    }
-    w
+    array::from_fn(|j| Dv::cst(u[i - 2 + j]))
 }
 
 // Every second number of the handles from index at on, four of them, as variables.
@@ -70,42 +55,37 @@ fn four(q: &[f64], at: usize) -> [Dv; 4]
     requires { at + 6 < length q.now }
     ensures { result ≡ four_of dual (variables_of q.now) at 2 }
 {
-    let a = Dv::var(q, at);
-    let b = Dv::var(q, at + 2);
-    let c = Dv::var(q, at + 4);
-    let d = Dv::var(q, at + 6);
-    [a, b, c, d]
+    [
+        Dv::var(q, at),
+        Dv::var(q, at + 2),
+        Dv::var(q, at + 4),
+        Dv::var(q, at + 6),
+    ]
 }
 
 // What is read at t of the curve whose control points are the handles.
-fn control_piece(q: &[f64], given: bool, knots: &[f64], t: f64) -> Piece
-    requires { Passed (handle_rules Control q.now given knots.now) }
-    ensures read { Read (control_shape q.now given knots.now) t result }
-    ensures fine_value { result.fine ≡ true }
+fn control_piece(q: &[f64], knots: Option<&[f64]>, t: f64) -> Piece
+    requires { Passed (handle_rules Control q.now (given knots) (given_list (λ k. k.now) knots)) }
+    ensures { Read (control_shape q.now (given knots.entry) (given_list (λ k. k.now) knots.entry)) t result }
 {
     let n = q.len() / 2;
-    let u = rooms::stored_knots(n, given, knots);
+    let u = rooms::stored_knots(n, knots);
     let lo = u[0];
     let hi = u[n + 3];
     let i = span::span(&u, n, number::clamp(t, lo, hi));
-    let six = constants(&u, i);
     let at = 2 * (i - 3);
+    let knots = constants(&u, i);
     let xs = four(q, at);
     let ys = four(q, at + 1);
-    Piece {
-        lo,
-        hi,
-        knots: six,
-        xs,
-        ys,
-        fine: true,
-    }
+    let span = evaluate::Piece { knots, xs, ys };
+    Piece { lo, hi, span }
 }
 
 // ---- fit points
 
-// What is read at t of the curve through the handles, which is made in the two work buffers, with c partials to a cell. Its domain is 0 to 1.
-fn fit_piece(q: &[f64], c: usize, t: f64, work: &mut [f64], counts: &mut [u8]) -> Piece
+// What is read at t of the curve through the handles, which is made in the two work buffers, with c partials to a cell, if every number that is stored
+// for it is finite. Its domain is 0 to 1.
+fn fit_piece(q: &[f64], c: usize, t: f64, work: &mut [f64], counts: &mut [u8]) -> Option<Piece>
     requires { ReadyFit q.now c work.old counts.old }
     ensures answer { Judged (stored_fine Fit q.now) (fit_shape q.now) t result }
     ensures doubles { work.new ≡ cleared (cells_for Fit q.now * (c + 1)) zero64 work.old }
@@ -113,75 +93,36 @@ fn fit_piece(q: &[f64], c: usize, t: f64, work: &mut [f64], counts: &mut [u8]) -
 {
     let lo = 0.0;
     let hi = 1.0;
-    let p = fit_partials::piece_at(q, work, counts, c, number::clamp(t, lo, hi));
-    let knots = p.knots;
-    let xs = p.xs;
-    let ys = p.ys;
-    Piece {
-        lo,
-        hi,
-        knots,
-        xs,
-        ys,
-        fine: p.fine,
-    }
+    let read = fit_partials::piece_at(q, work, counts, c, number::clamp(t, lo, hi))?;
+    let fit_partials::Piece { knots, xs, ys } = read;
+    let span = evaluate::Piece { knots, xs, ys };
+    Some(Piece { lo, hi, span })
 }
 
-// What is read at t of the curve of either form; control points need no work.
+// What is read at t of the curve of either form, if every number that its build stores is finite; control points need no work.
 // Corresponds to spline.rs: curve_d.
 fn read_curve(
     form: Form,
     q: &[f64],
-    given: bool,
-    knots: &[f64],
+    knots: Option<&[f64]>,
     c: usize,
     t: f64,
     work: &mut [f64],
     counts: &mut [u8],
-) -> Piece
-    requires { Ready form q.now given knots.now c work.old counts.old }
-    ensures answer { Judged (stored_fine form q.now) (shape_of form q.now given knots.now) t result }
+) -> Option<Piece>
+    requires { Ready form q.now (given knots) (given_list (λ k. k.now) knots) c work.old counts.old }
+    ensures answer { Judged (stored_fine form q.now)
+        (shape_of form q.now (given knots.entry) (given_list (λ k. k.now) knots.entry)) t result }
     ensures doubles { work.new ≡ cleared (cells_for form q.now * (c + 1)) zero64 work.old }
     ensures counts { counts.new ≡ cleared (cells_for form q.now) 0 counts.old }
 {
     match form {
-        Form::Control => control_piece(q, given, knots, t),
+        Form::Control => Some(control_piece(q, knots, t)),
         Form::Fit => fit_piece(q, c, t, work, counts),
     }
 }
 
 // ---- the residuals
-
-// The point at t of whatever curve the piece was read of for t.
-// Corresponds to spline.rs: Curve::eval.
-fn point(p: Piece, t: Dv) -> P2d
-    ensures { (c : Shape Dv) → Read c t.v p → view_d result ≡ order_at dual (span_in c) c t 0 0 }
-{
-    let six = p.knots;
-    let xs = p.xs;
-    let ys = p.ys;
-    if t.v < p.lo {
-        return evaluate_partials::beyond(six, xs, ys, Dv::cst(p.lo), t);
-    }
-    if t.v > p.hi {
-        return evaluate_partials::beyond(six, xs, ys, Dv::cst(p.hi), t);
-    }
-    evaluate_partials::inside(six, xs, ys, t)
-}
-
-// The residuals of the point (x, y) at t.
-// Corresponds to point_on_spline.rs: PointOnSplineConstraint::eval.
-fn residuals_at(p: Piece, x: Dv, y: Dv, t: Dv) -> Three
-    ensures { (c : Shape Dv) → Read c t.v p → in_order result ≡ three_of c (record { x = x; y = y }) t }
-{
-    let curve = point(p, t);
-    let held = P2d { x, y };
-    let d = held.sub(curve);
-    let dx = d.x;
-    let dy = d.y;
-    let past = t.overshoot(p.lo, p.hi);
-    Three { x: dx, y: dy, past }
-}
 
 // Variable i, whose number is x: that of any list which has x at i.
 fn variable(x: f64, i: usize) -> Dv
@@ -194,125 +135,127 @@ fn variable(x: f64, i: usize) -> Dv
     Dv { v: x, g, n: i + 1 }
 }
 
-// The residuals of (px, py) at t, where the numbers of the handles are the variables before these three, h of them.
-fn residuals_of(p: Piece, h: usize, px: f64, py: f64, t: f64) -> Three
-    requires { h ≤ 24 }
-    ensures { (c : Shape Dv) (q : List Float) → length q ≡ h → Read c t p → in_order result ≡ residuals_on c q px py t }
-{
-    let x = variable(px, h);
-    let y = variable(py, h + 1);
-    let at = variable(t, h + 2);
-    residuals_at(p, x, y, at)
+impl Piece {
+    // The point at t of whatever curve the piece was read of for t.
+    // Corresponds to spline.rs: Curve::eval.
+    fn point(&self, t: Dv) -> P2<Dv>
+        ensures { (c : Shape Dv) → Read c t.v self.now → view result ≡ order_at dual (span_in c) c t 0 0 }
+    {
+        if t.v < self.lo {
+            return self.span.beyond(Dv::cst(self.lo), t);
+        }
+        if t.v > self.hi {
+            return self.span.beyond(Dv::cst(self.hi), t);
+        }
+        self.span.inside(t)
+    }
+
+    // The residuals of the point (x, y) at t: that point less the curve's, and how far t lies past the domain.
+    // Corresponds to point_on_spline.rs: PointOnSplineConstraint::eval.
+    fn residuals_at(&self, x: Dv, y: Dv, t: Dv) -> [Dv; 3]
+        ensures { (c : Shape Dv) → Read c t.v self.now → result ≡ three_of c (record { x = x; y = y }) t }
+    {
+        let curve = self.point(t);
+        let held = P2 { x, y };
+        let d = held - curve;
+        let past = t.overshoot(self.lo, self.hi);
+        [d.x, d.y, past]
+    }
+
+    // The residuals of (px, py) at t, where the numbers of the handles are the variables before these three, h of them.
+    fn residuals_of(&self, h: usize, px: f64, py: f64, t: f64) -> [Dv; 3]
+        requires { h ≤ 24 }
+        ensures { (c : Shape Dv) (q : List Float) → length q ≡ h → Read c t self.now → result ≡ residuals_on c q px py t }
+    {
+        let x = variable(px, h);
+        let y = variable(py, h + 1);
+        let at = variable(t, h + 2);
+        self.residuals_at(x, y, at)
+    }
 }
 
 // ---- what is answered
 
-// Partial k of the n that stand in g: a missing one reads as +0.0.
-fn part(g: &[f64; 27], n: usize, k: usize) -> f64
-    requires { n ≤ 27 }
-    ensures { result ≡ part_at g.now n k }
-{
-    if k < n {
-        return g[k];
-    }
-    0.0
-}
-
-// A count, read as 27 where it is larger.
-fn counted(n: usize) -> usize
-    ensures { (result ≡ min n 27) × (result ≤ 27) }
-{
-    if n <= 27 {
-        return n;
-    }
-    27
-}
-
-// The c partials of d, from index at on.
+// The partials of d, as many as the row has room for: +0.0 in place of a missing one.
 // Corresponds to spline.rs: Dv::write_row.
-fn write_row(d: Dv, c: usize, rows: &mut [f64], at: usize)
-    requires { at + c ≤ length rows.old }
-    ensures { rows.new ≡ paste rows.old at (listed 0 c (part_of d)) c }
+fn write_row(d: &Dv, row: &mut [f64])
+    requires { length row.old ≤ 27 }
+    ensures { row.new ≡ listed 0 (length row.old) (part_of d.now) }
 {
-    let g = d.g;
-    let n = counted(d.n);
-    for k in 0..c {
-        rows[at + k] = part(&g, n, k);
-    }
+    let n = d.n.min(row.len());
+    row[..n].copy_from_slice(&d.g[..n]);
+    row[n..].fill(0.0);
 }
 
-// All three rows.
-fn write_rows(r: Three, c: usize, rows: &mut [f64])
+// All three rows, of c partials.
+fn write_rows(three: &[Dv; 3], c: usize, rows: &mut [f64])
     requires { (c ≤ 27) × (3 * c ≤ length rows.old) }
-    ensures { rows.new ≡ paste rows.old 0 (rows_of c (in_order r)) (3 * c) }
+    ensures { rows.new ≡ paste rows.old 0 (rows_of c three.now) (3 * c) }
 {
-    write_row(r.x, c, rows, 0);
-    write_row(r.y, c, rows, c);
-    write_row(r.past, c, rows, 2 * c);
+    write_row(&three[0], &mut rows[..c]);
+    write_row(&three[1], &mut rows[c..2 * c]);
+    write_row(&three[2], &mut rows[2 * c..3 * c]);
 }
 
 // The three values.
-fn write_values(r: Three, residuals: &mut [f64])
+fn write_values(three: &[Dv; 3], residuals: &mut [f64])
     requires { 3 ≤ length residuals.old }
-    ensures { residuals.new ≡ paste residuals.old 0 (values_of (in_order r)) 3 }
+    ensures { residuals.new ≡ paste residuals.old 0 (values_of three.now) 3 }
 {
-    residuals[0] = r.x.v;
-    residuals[1] = r.y.v;
-    residuals[2] = r.past.v;
+    residuals[..3].copy_from_slice(&[three[0].v, three[1].v, three[2].v]);
 }
 
 // Whether every number of the three is finite.
-fn all_fine(r: Three) -> bool
-    ensures { result ≡ all_fine dual (in_order r) }
+fn all_fine(three: &[Dv; 3]) -> bool
+    ensures { result ≡ list_all fine_dv three.now }
 {
-    let x = r.x.is_fine();
-    let y = r.y.is_fine();
-    let past = r.past.is_fine();
-    number::both(x, number::both(y, past))
+    three.iter().all(|d| d.is_fine())
 }
 
-// The answer, unless a number of it, or one that was stored for it, is not finite.
-fn answer(r: Three, fine: bool, c: usize, residuals: &mut [f64], rows: &mut [f64]) -> Refusal
+// The answer, unless a number of it is not finite.
+fn answer(three: &[Dv; 3], c: usize, residuals: &mut [f64], rows: &mut [f64]) -> Result<(), Refusal>
     requires { (c ≤ 27) × (3 ≤ length residuals.old) × (3 * c ≤ length rows.old) }
-    ensures leaves { Leaves (last_rule (fine && all_fine dual (in_order r))) (values_of (in_order r)) 3 residuals.old
-        (one.outcome result residuals.new) }
-    ensures leaves_2 { Leaves (last_rule (fine && all_fine dual (in_order r))) (rows_of c (in_order r)) (3 * c) rows.old
-        (one.outcome result rows.new) }
+    ensures leaves { Leaves (last_rule (all_fine dual three.now)) (values_of three.now) 3 residuals.old
+        (one.outcome (verdict result) residuals.new) }
+    ensures leaves_2 { Leaves (last_rule (all_fine dual three.now)) (rows_of c three.now) (3 * c) rows.old
+        (one.outcome (verdict result) rows.new) }
 {
-    if !number::both(fine, all_fine(r)) {
-        return refusal::by(15);
+    if !all_fine(three) {
+        return Err(Refusal::WildOutcome);
     }
-    write_values(r, residuals);
-    write_rows(r, c, rows);
-    refusal::by(0)
+    write_values(three, residuals);
+    write_rows(three, c, rows);
+    Ok(())
 }
 
 // ---- the rules
 
 // Why these handles, this point and this parameter are refused by the rules 1 to 12, if they are.
-fn check(form: Form, q: &[f64], given: bool, knots: &[f64], px: f64, py: f64, t: f64) -> Refusal
-    ensures { result ≡ first_of (asked_rules (asked form q.now given knots.now px py t)) }
+fn check(
+    form: Form,
+    q: &[f64],
+    knots: Option<&[f64]>,
+    px: f64,
+    py: f64,
+    t: f64,
+) -> Result<(), Refusal>
+    ensures { verdict result
+        ≡ first_of (asked_rules (asked form q.now (given knots.entry) (given_list (λ k. k.now) knots.entry) px py t)) }
 {
     if q.len() % 2 != 0 {
-        return refusal::by(1);
+        return Err(Refusal::OddCoordinates);
     }
     if q.len() / 2 > 12 {
-        return refusal::by(4);
+        return Err(Refusal::ManyHandles);
     }
-    let r = shape::check_handles(form, q, given, knots);
-    if r.number != 0 {
-        return r;
-    }
-    if !number::is_finite(px) {
-        return refusal::by(11);
-    }
-    if !number::is_finite(py) {
-        return refusal::by(11);
+    shape::check_handles(form, q, knots)?;
+    if !number::is_finite(px) || !number::is_finite(py) {
+        return Err(Refusal::WildCoordinate);
     }
     if !number::is_finite(t) {
-        return refusal::by(12);
+        return Err(Refusal::WildParameter);
     }
-    r
+    Ok(())
 }
 
 // How many cells of work the handles need.
@@ -332,16 +275,7 @@ fn lacks(cells: usize, c: usize, doubles: usize, bytes: usize, three: usize, row
     requires { (cells ≤ 224) × (c ≤ 28) }
     ensures { result ≡ lacks_of cells c doubles bytes three rows }
 {
-    if doubles < cells * (c + 1) {
-        return true;
-    }
-    if bytes < cells {
-        return true;
-    }
-    if three < 3 {
-        return true;
-    }
-    rows < 3 * c
+    doubles < cells * (c + 1) || bytes < cells || three < 3 || rows < 3 * c
 }
 
 // ---- the whole call
@@ -353,8 +287,7 @@ fn lacks(cells: usize, c: usize, doubles: usize, bytes: usize, three: usize, row
 pub fn residual(
     form: Form,
     handles: &[f64],
-    given: bool,
-    knots: &[f64],
+    knots: Option<&[f64]>,
     px: f64,
     py: f64,
     t: f64,
@@ -362,15 +295,12 @@ pub fn residual(
     counts: &mut [u8],
     residuals: &mut [f64],
     rows: &mut [f64],
-) -> Refusal
-    ensures { outcome result work.new counts.new residuals.new rows.new
-        ≡ residual_answer (asked form handles.now given knots.now px py t)
+) -> Result<(), Refusal>
+    ensures { outcome (verdict result) work.new counts.new residuals.new rows.new
+        ≡ residual_answer (asked form handles.now (given knots.entry) (given_list (λ k. k.now) knots.entry) px py t)
         (lent work.old counts.old residuals.old rows.old) }
 {
-    let r = check(form, handles, given, knots, px, py, t);
-    if r.number != 0 {
-        return r;
-    }
+    check(form, handles, knots, px, py, t)?;
     let c = handles.len() + 3;
     let size = cells(form, handles);
     if lacks(
@@ -381,9 +311,11 @@ pub fn residual(
         residuals.len(),
         rows.len(),
     ) {
-        return refusal::by(14);
+        return Err(Refusal::ShortSlice);
     }
-    let p = read_curve(form, handles, given, knots, c, t, work, counts);
-    let three = residuals_of(p, handles.len(), px, py, t);
-    answer(three, p.fine, c, residuals, rows)
+    let Some(p) = read_curve(form, handles, knots, c, t, work, counts) else {
+        return Err(Refusal::WildOutcome);
+    };
+    let three = p.residuals_of(handles.len(), px, py, t);
+    answer(&three, c, residuals, rows)
 }

@@ -30,6 +30,7 @@ fn guess(p: u64) -> u64
 
 // The whole part of the root of m: the largest s whose square is at most m. It comes from any guess, however wrong: down while the
 // square is above m, then up while the next square is not. From a good guess neither loop takes a turn.
+// Stays: what the loops count is the root that is sought, and no index.
 fn floor_root(m: u64, guess: u64) -> u64
     requires { (m < 2 ^ 54) × (guess < 2 ^ 28) }
     ensures { (result * result ≤ m) × (m < (result + 1) * (result + 1)) }

@@ -16,6 +16,10 @@ unfoldable pub exchanged_in : List ℕ → ℕ → ℕ → List ℕ
 exchanged_in order i j =
     cond (ltb i 66 && ltb j 66) (set (set order i (place_of order j)) j (place_of order i)) order
 
+-- the same in an order of m rows: nothing where one of them is none of the rows
+abbrev pub exchanged_below : ℕ → List ℕ → ℕ → ℕ → List ℕ
+exchanged_below m order i j = cond (ltb i m && ltb j m) (exchanged_in order i j) order
+
 -- the order is a permutation of m places: each of m rows lies at one of them, no two at the same, and at each place one
 pub record Order (m : ℕ) (order : List ℕ) : Type 0 where
   pub few : m ≤ 66

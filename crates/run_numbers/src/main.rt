@@ -2,85 +2,59 @@
 // accepted and refused, and lengths that are stored. Each line has what is asked and the answer; `stdout` has the rules' answers.
 #![tactic(auto)]
 
-use curve::{Built, Curve};
+use curve::Curve;
 use knots::Form;
-use outcome::Told;
+use programs::Bits;
 use refusal::Refusal;
 use std::io;
 
 // (0,0), (0,8), (8,8), (8,0)
-fn a() -> [f64; 8] {
-    [0.0, 0.0, 0.0, 8.0, 8.0, 8.0, 8.0, 0.0]
-}
+const A: [f64; 8] = [0.0, 0.0, 0.0, 8.0, 8.0, 8.0, 8.0, 0.0];
 
 // (0,0), (1,2), (2,4), (3,6)
-fn b() -> [f64; 8] {
-    [0.0, 0.0, 1.0, 2.0, 2.0, 4.0, 3.0, 6.0]
-}
+const B: [f64; 8] = [0.0, 0.0, 1.0, 2.0, 2.0, 4.0, 3.0, 6.0];
 
-// B times u.
-fn b_times(u: f64) -> [f64; 8] {
-    [0.0, 0.0, u, 2.0 * u, 2.0 * u, 4.0 * u, 3.0 * u, 6.0 * u]
-}
+// ---- what is asked
 
 // The curve with these control points over uniform knots.
-fn uniform(points: &[f64; 8]) -> Built {
-    build::build(Form::Control, points, false, &[], &mut [])
+fn uniform(points: &[f64; 8]) -> Result<Curve, Refusal> {
+    build::build(Form::Control, points, None, &mut [])
 }
 
-// Writes the word and the number, or that there is none.
-fn print_refusal(rt: &impl Print, r: Refusal) -> io::Result<()> {
-    if r.number == 0 {
-        println!(rt; "accepted")
-    } else {
-        println!(rt; "refused {}", r.number)
-    }
+// The parameter of the point of that curve that is closest to (x, y).
+fn closest_to(points: &[f64; 8], x: f64, y: f64) -> Result<f64, Refusal> {
+    closest::closest(&uniform(points)?, x, y)
 }
 
-// Writes the bits of a number, or a word for a NaN, which has no bits of its own.
-fn print_number(rt: &impl Print, x: f64) -> io::Result<()> {
-    if x == x {
-        println!(rt; "{:016x}", f64::to_bits(x))
-    } else {
-        println!(rt; "nan")
-    }
-}
-
-// Writes the number, or the refusal.
-fn print_told(rt: &impl Print, f: Told) -> io::Result<()> {
-    match f {
-        Told::Is(x) => print_number(rt, x),
-        Told::Refused(r) => print_refusal(rt, r),
-    }
-}
-
-// Writes whether an order is accepted.
-fn print_order(rt: &impl Print, order: usize) -> io::Result<()> {
-    let curve = uniform(&a()).curve;
+// Whether an order is accepted.
+fn order_of_a(order: usize) -> Result<(), Refusal> {
     let mut out = [0.0; 12];
-    print_refusal(rt, point::evaluate(curve, 0.25, order, &mut out))
+    point::evaluate(&uniform(&A)?, 0.25, order, &mut out)
 }
 
-// Writes whether a fit through these points is accepted.
-fn print_fit(rt: &impl Print, points: &[f64]) -> io::Result<()> {
+// Whether a curve with these control points is accepted.
+fn control(points: &[f64; 8]) -> Result<(), Refusal> {
+    uniform(points)?;
+    Ok(())
+}
+
+// Whether a fit through these points is accepted.
+fn fit(points: &[f64]) -> Result<(), Refusal> {
     let mut work = [0.0; 35];
-    print_refusal(
-        rt,
-        build::build(Form::Fit, points, false, &[], &mut work).refusal,
-    )
+    build::build(Form::Fit, points, None, &mut work)?;
+    Ok(())
 }
 
-// Writes whether the residuals of a point held on the curve through these two points are answered: they store no length.
-fn print_held(rt: &impl Print, points: &[f64]) -> io::Result<()> {
+// Whether the residuals of a point held on the curve through these two points are answered: they store no length.
+fn held(points: &[f64]) -> Result<(), Refusal> {
     let mut work = [0.0; 192];
     let mut counts = [0u8; 24];
     let mut residuals = [0.0; 3];
     let mut rows = [0.0; 21];
-    let r = residual::residual(
+    residual::residual(
         Form::Fit,
         points,
-        false,
-        &[],
+        None,
         0.0,
         0.0,
         0.5,
@@ -88,80 +62,88 @@ fn print_held(rt: &impl Print, points: &[f64]) -> io::Result<()> {
         &mut counts,
         &mut residuals,
         &mut rows,
-    );
-    print_refusal(rt, r)
+    )
 }
 
-// Writes whether a curve with these control points is accepted.
-fn print_control(rt: &impl Print, points: &[f64; 8]) -> io::Result<()> {
-    print_refusal(rt, uniform(points).refusal)
+// The length of A.
+fn length_of_a() -> Result<f64, Refusal> {
+    measure::length(&uniform(&A)?)
 }
 
-// Writes the length of A with a control point moved to (0, 4), or the refusal.
-fn print_moved(rt: &impl Print, index: usize) -> io::Result<()> {
-    let moved = moving::move_point(uniform(&a()).curve, index, 0.0, 4.0);
-    if moved.refusal.number == 0 {
-        print_told(rt, measure::length(moved.curve))
-    } else {
-        print_refusal(rt, moved.refusal)
+// The length of A with a control point moved to (0, 4).
+fn length_moved(index: usize) -> Result<f64, Refusal> {
+    let moved = moving::move_point(&uniform(&A)?, index, 0.0, 4.0)?;
+    measure::length(&moved)
+}
+
+// What is answered for the length of this curve, where it stores another.
+fn length_stored(points: &[f64; 8], length: f64) -> Result<f64, Refusal> {
+    let curve = uniform(points)?;
+    measure::length(&Curve { length, ..curve })
+}
+
+// ---- what is written
+
+// A word, and the number of a refusal.
+fn print_verdict(rt: &impl Print, what: &str, answer: Result<(), Refusal>) -> io::Result<()> {
+    match answer {
+        Ok(()) => println!(rt; "{what}: accepted"),
+        Err(r) => println!(rt; "{what}: refused {}", r.number()),
     }
 }
 
-// Writes what is answered for the length of this curve, where it stores another.
-fn print_stored(rt: &impl Print, c: Curve, length: f64) -> io::Result<()> {
-    let mut other = c;
-    other.length = length;
-    print_told(rt, measure::length(other))
+// The number, or that of a refusal.
+fn print_number(rt: &impl Print, what: &str, answer: Result<f64, Refusal>) -> io::Result<()> {
+    match answer {
+        Ok(x) => println!(rt; "{what}: {}", Bits(x)),
+        Err(r) => println!(rt; "{what}: refused {}", r.number()),
+    }
 }
 
 // The closest parameters, and the orders.
 fn print_questions(rt: &impl Print) -> io::Result<()> {
-    print!(rt; "B closest to (-6,0): ")?;
-    print_told(rt, closest::closest(uniform(&b()).curve, -6.0, 0.0))?;
-    print!(rt; "B closest to (1.5,3): ")?;
-    print_told(rt, closest::closest(uniform(&b()).curve, 1.5, 3.0))?;
-    print!(rt; "A closest to (4,0): ")?;
-    print_told(rt, closest::closest(uniform(&a()).curve, 4.0, 0.0))?;
-    print!(rt; "A closest to (1e200,4): ")?;
-    print_told(rt, closest::closest(uniform(&a()).curve, 1e200, 4.0))?;
-    print!(rt; "B times 2^-600 closest to (1.5,3) times 2^-600: ")?;
     let u = 2.409919865102884e-181;
-    print_told(
-        rt,
-        closest::closest(uniform(&b_times(u)).curve, 1.5 * u, 3.0 * u),
-    )?;
-    print!(rt; "order 4: ")?;
-    print_order(rt, 4)?;
-    print!(rt; "order 5: ")?;
-    print_order(rt, 5)
+    let questions = [
+        ("B closest to (-6,0)", B, -6.0, 0.0),
+        ("B closest to (1.5,3)", B, 1.5, 3.0),
+        ("A closest to (4,0)", A, 4.0, 0.0),
+        ("A closest to (1e200,4)", A, 1e200, 4.0),
+        (
+            "B times 2^-600 closest to (1.5,3) times 2^-600",
+            B.map(|x| x * u),
+            1.5 * u,
+            3.0 * u,
+        ),
+    ];
+    for (what, points, x, y) in questions {
+        print_number(rt, what, closest_to(&points, x, y))?;
+    }
+    print_verdict(rt, "order 4", order_of_a(4))?;
+    print_verdict(rt, "order 5", order_of_a(5))
 }
 
 // Curves that are accepted, and refused.
 fn print_builds(rt: &impl Print) -> io::Result<()> {
-    print!(rt; "fit (0,0),(1e200,0),(0,0): ")?;
-    print_fit(rt, &[0.0, 0.0, 1e200, 0.0, 0.0, 0.0])?;
-    print!(rt; "fit (0,0),(1e200,0): ")?;
-    print_fit(rt, &[0.0, 0.0, 1e200, 0.0])?;
-    print!(rt; "a point held on it: ")?;
-    print_held(rt, &[0.0, 0.0, 1e200, 0.0])?;
-    print!(rt; "a control edge of 1.35e154: ")?;
-    print_control(rt, &[0.0, 0.0, 1.35e154, 0.0, 0.0, 0.0, 0.0, 0.0])?;
-    print!(rt; "a control edge of 1.34e154: ")?;
-    print_control(rt, &[0.0, 0.0, 1.34e154, 0.0, 0.0, 0.0, 0.0, 0.0])
+    let there_and_back = [0.0, 0.0, 1e200, 0.0, 0.0, 0.0];
+    print_verdict(rt, "fit (0,0),(1e200,0),(0,0)", fit(&there_and_back))?;
+    let there = [0.0, 0.0, 1e200, 0.0];
+    print_verdict(rt, "fit (0,0),(1e200,0)", fit(&there))?;
+    print_verdict(rt, "a point held on it", held(&there))?;
+    let long = [0.0, 0.0, 1.35e154, 0.0, 0.0, 0.0, 0.0, 0.0];
+    print_verdict(rt, "a control edge of 1.35e154", control(&long))?;
+    let shorter = [0.0, 0.0, 1.34e154, 0.0, 0.0, 0.0, 0.0, 0.0];
+    print_verdict(rt, "a control edge of 1.34e154", control(&shorter))
 }
 
 // Lengths that are stored.
 fn print_lengths(rt: &impl Print) -> io::Result<()> {
-    print!(rt; "A's length: ")?;
-    print_told(rt, measure::length(uniform(&a()).curve))?;
-    print!(rt; "A's length, point 0 moved to (0,4): ")?;
-    print_moved(rt, 0)?;
-    print!(rt; "A's length, point 4 moved to (0,4): ")?;
-    print_moved(rt, 4)?;
-    print!(rt; "A's length, stored with another last bit: ")?;
-    print_stored(rt, uniform(&a()).curve, 24.000000000000004)?;
-    print!(rt; "four points at (0,0), -0.0 stored: ")?;
-    print_stored(rt, uniform(&[0.0; 8]).curve, -0.0)
+    let last_bit = length_stored(&A, 24.000000000000004);
+    let minus_zero = length_stored(&[0.0; 8], -0.0);
+    print_number(rt, "A's length", length_of_a())?;
+    print_number(rt, "A's length, point 0 moved to (0,4)", length_moved(0))?;
+    print_number(rt, "A's length, point 4 moved to (0,4)", length_moved(4))?;
+    print_number(rt, "A's length, stored with another last bit", last_bit)?;
+    print_number(rt, "four points at (0,0), -0.0 stored", minus_zero)
 }
 
 fn main(rt: HostRuntime) -> io::Result<()> {

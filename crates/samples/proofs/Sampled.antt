@@ -7,16 +7,21 @@ use native.Mathlib.Nat.{le_refl, zero-add}
 use borrow.Author.Tests.{eq-eqb, ne_eqb}
 use native.Mathlib.Numerals.{add-one}
 use native.Mathlib.Omega.{arith}
-use lib.ListN.{length, get_or, set, take, drop, length-append, get_or-append}
-use lib.Seq.{paste, take-append_seam, take-length, take_at, take_all, drop-append-add, drop-drop, drop-cons, set_at, append_snoc}
+use borrow.Rule.Slice.PartMut.{mid_of, put_mid, mid_len}
+use Rattle.std.proofs.lemmas.Slice.{put_mid-paste}
+use lib.ListN.{length, get_or, set, take, drop, length-take, length-drop, length-append, get_or-append}
+use lib.Seq.{paste, length-paste, length-take-le, get_or-take, get_or-drop, take-append_seam, take-length, take_at, take_all, drop-append-add, drop-drop, drop-cons, set_at, append_snoc}
 use lib.Dec.{ltb}
 use lib.Ieee.{Float, nan, lt}
 use lib.Ieee.Scale.{finite}
 use Rattle.meaning.specs.Scalar.{plain}
 use Rattle.meaning.specs.Table.{at1}
 use Rattle.meaning.specs.Loops.{turns}
+use Rattle.std.proofs.Common.{true≢false}
+use Rattle.std.specs.Prelude.{Result, Ok, Err, IsErr}
 use Rattle.refusal.specs.declared.Refusal.{Refusal}
-use Rattle.refusal.specs.Refusals.{row, first_of, is_none}
+use Rattle.refusal.specs.Refusals.{Verdict, verdict, row, first_of, is_none}
+use Rattle.refusal.proofs.Rows.{ruled}
 use Rattle.meaning.specs.Search.{some, listed}
 use Rattle.meaning.proofs.Filling.{length-listed, nth_listed}
 use Rattle.meaning.proofs.Searching.{some-found, none_found, found_some, found_none}
@@ -25,7 +30,7 @@ use Rattle.shape.specs.Shape.{Shape}
 use Rattle.outcome.specs.Outcome.{some_wild, delivery_rules, Outcome, outcome, answering}
 use Rattle.outcome.proofs.Doors.{Leaves}
 use Rattle.samples.specs.Walk.{Walked, walked, walk_of}
-use Rattle.samples.specs.Samples.{sample_at, rising_samples, pair_samples, pairs_of, samples_of, counted, counting}
+use Rattle.samples.specs.Samples.{sample_at, rising_samples, pair_samples, pairs_of, samples_of, counted, count_in, counting}
 
 -- sample s of the list
 pub sample_is : (w0 w1 : Float) (per s : ℕ) → s < per → get_or (listed 0 per (sample_at w0 w1 per)) s nan ≡ sample_at w0 w1 per s
@@ -68,6 +73,17 @@ module _ (w0 w1 : Float) (per : ℕ) where
   pub length_rising : length (rising_samples w0 w1 per) ≤ per
   length_rising = by_two (lt w0 w1) (λ h. rw (all_rising h, length-listed 0 per (sample_at w0 w1 per)) (le_refl per)) (λ h. rw (none_rising h) (omega arith))
 
+  -- the part of a room that a pair fills
+  pub part_sampled : (at : ℕ) (room filled : List Float) → at + per ≤ length room → lt w0 w1 ≡ true
+      → filled ≡ listed 0 (length (mid_of at (at + per - at) room)) (sample_at w0 w1 (length (mid_of at (at + per - at) room)))
+      → put_mid at (at + per - at) room filled ≡ paste room at (rising_samples w0 w1 per) (length (rising_samples w0 w1 per))
+  part_sampled at room filled h l e =
+      let m : at + per - at ≡ per = omega arith in
+      let long : length (mid_of at (at + per - at) room) ≡ per = mid_len at (at + per) room h ∙ m in
+      let all = length-listed 0 per (sample_at w0 w1 per) in
+      rw (all_rising l, all)
+      (put_mid-paste at (at + per - at) room filled (listed 0 per (sample_at w0 w1 per)) per (e ∙ ap (λ (k : ℕ). listed 0 k (sample_at w0 w1 k)) long) (sym m) (sym all))
+
 -- what the loop keeps: the samples so far in front, and the rest of the room as it was
 pub record Sampled (ks : List Float) (per : ℕ) (room₀ : List Float) (i at : ℕ) (room : List Float) : Type 0 where
   pub long : length room ≡ length room₀
@@ -91,6 +107,36 @@ sampled_next {ks} {per} {room₀} {i} {at} {room} s small {at'} {next} l a e =
       few = omega (arith, s.few);
       is = e ∙ behind (so_far ks per i) p room₀ room at (length p) s.count refl s.is ∙ (λ k. sym (more ks per i) k ++ drop (sym a k) room₀);
     }
+
+-- the knots behind the first, one by one
+pub next_knot : (ks : List Float) (i : ℕ) → i < length (take (length ks - 1) (drop 1 ks)) → get_or (take (length ks - 1) (drop 1 ks)) i nan ≡ at1 plain ks (i + 1)
+next_knot ks i h =
+    let low : i < length ks - 1 = omega (arith, length-take (length ks - 1) (drop 1 ks)) in
+    let at : 1 + i ≡ i + 1 = omega arith in
+    get_or-take (length ks - 1) (drop 1 ks) i nan low ∙ get_or-drop 1 ks i nan ∙ ap (λ (j : ℕ). at1 plain ks j) at
+
+pub other_knots : (ks : List Float) → 1 ≤ length ks → length (take (length ks - 1) (drop 1 ks)) ≡ length ks - 1
+other_knots ks h = length-take-le (length ks - 1) (drop 1 ks) (omega (arith, length-drop 1 ks))
+
+-- the pair of this turn, for which there is room
+pub pair_next : (ks : List Float) (per : ℕ) {room₀ : List Float} {i at : ℕ} {room : List Float} → Sampled ks per room₀ i at room → per ≤ 16 → at + per ≤ length room
+    → {w0 w1 : Float} → w0 ≡ at1 plain ks i → w1 ≡ at1 plain ks (i + 1) → {at' : ℕ} {next : List Float} → at' ≡ at + length (rising_samples w0 w1 per)
+    → next ≡ paste room at (rising_samples w0 w1 per) (length (rising_samples w0 w1 per)) → Sampled ks per room₀ (i + 1) at' next
+pair_next ks per {room₀} {i} {at} {room} s small fits {w0} {w1} e0 e1 {at'} {next} a e =
+    let p = rising_samples w0 w1 per in
+    let same : p ≡ pair_samples ks per i = λ k. rising_samples (e0 k) (e1 k) per in
+    let few = length_rising w0 w1 per in
+    sampled_next s small (ap length e ∙ length-paste room at p (length p) (omega arith) (le_refl (length p))) (a ∙ ap (λ (l : List Float). at + length l) same)
+    (e ∙ ap (λ (l : List Float). paste room at l (length l)) same)
+
+-- past the last pair
+pub sampled_all : {ks : List Float} {per : ℕ} {room₀ : List Float} {i at : ℕ} {room : List Float} → Sampled ks per room₀ i at room → (n : ℕ) → i ≡ n + 3
+    → (at ≡ length (pairs_of n ks per)) × (room ≡ pairs_of n ks per ++ drop at room₀)
+sampled_all {ks} {per} {room₀} {i} {at} s n e =
+    let all : so_far ks per i ≡ pairs_of n ks per = ap (so_far ks per) (omega (arith, e)) in (
+      sym s.count ∙ ap length all,
+      s.is ∙ ap (λ (l : List Float). l ++ drop at room₀) all,
+    )
 
 -- ---- a test of the numbers in front
 
@@ -171,9 +217,15 @@ module _ (c d : Shape Float) (per : ℕ) (n : c.n ≡ d.n) (same : (i : ℕ) →
       λ k. pairs k ++ (end k ∷ [])
 
 -- the count stands beside an outcome
-module _ {r : Refusal} {out' : List Float} {o : Outcome} (e : outcome r out' ≡ o) (k n : ℕ) where
+module _ {r : Verdict} {out' : List Float} {o : Outcome} (e : outcome r out' ≡ o) (k n : ℕ) where
   pub count_stays : (r.number ≡ 0 → ⊥) → counted r out' n ≡ counting o k n
   count_stays h = subst (λ (x : Outcome). counted r out' n ≡ counting x k n) e (rw (ne_eqb r.number 0 h))
 
   pub count-given : r.number ≡ 0 → {n' : ℕ} → n' ≡ k → counted r out' n' ≡ counting o k n
   count-given z {n'} q = subst (λ (x : Outcome). counted r out' n' ≡ counting x k n) e (ap (counted r out') (q ∙ sym (ap (λ (b : Bool). cond b k n) (eq-eqb r.number 0 z))))
+
+-- no count is answered with a refusal
+pub count_refused : (y : Result ℕ Refusal) → IsErr y → {out' : List Float} {o : Outcome} → outcome (verdict y) out' ≡ o → (k n : ℕ)
+    → counted (verdict y) out' (count_in y n) ≡ counting o k n
+count_refused (Ok x) h e k n = absurd (true≢false (sym h))
+count_refused (Err r) h e k n = count_stays e k n (ruled r)

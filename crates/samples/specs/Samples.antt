@@ -1,12 +1,12 @@
 -- Parameters spread over the domain. docs/RULES.md, "Samples", decides.
-use Rattle.std.specs.Prelude.{cond, List, [], ◌∷◌, ◌++◌, ℕ, ◌+◌, length, ltb, pos, Float}
+use Rattle.std.specs.Prelude.{cond, List, [], ◌∷◌, ◌++◌, ℕ, ◌+◌, length, ltb, pos, Result, Ok, Err, Float}
 use Rattle.std.specs.Float.{binary64}
 use Rattle.std.specs.Float.Ieee.{add, sub, mul, div, lt, of_int}
 use Rattle.meaning.specs.Scalar.{plain}
 use Rattle.meaning.specs.Table.{at1}
 use Rattle.meaning.specs.Loops.{run}
 use Rattle.refusal.specs.declared.Refusal.{Refusal}
-use Rattle.refusal.specs.Refusals.{row, is_none}
+use Rattle.refusal.specs.Refusals.{Verdict, row, is_none}
 use Rattle.meaning.specs.Search.{listed}
 use Rattle.shape.specs.Shape.{Shape}
 use Rattle.shape.specs.Offered.{Offered}
@@ -34,12 +34,17 @@ samples_of c per = pairs_of c.n c.knots per ++ (at1 plain c.knots (c.n + 3) ∷ 
 
 -- an outcome, and beside its slice a lent number: how many numbers were written, or what it was
 pub record Counted : Type 0 where
-  pub refusal : Refusal
+  pub refusal : Verdict
   pub out : List Float
   pub count : ℕ
 
-abbrev pub counted : Refusal → List Float → ℕ → Counted
+abbrev pub counted : Verdict → List Float → ℕ → Counted
 counted r out n = record { refusal = r; out = out; count = n }
+
+-- the count that is answered, and n with a refusal
+abbrev pub count_in : Result ℕ Refusal → ℕ → ℕ
+count_in (Ok k) n = k
+count_in (Err r) n = n
 
 abbrev pub counting : Outcome → ℕ → ℕ → Counted
 counting o k n = counted o.refusal o.out (cond (is_none o.refusal) k n)

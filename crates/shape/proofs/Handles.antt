@@ -11,8 +11,7 @@ use lib.Dec.{T}
 use lib.Ieee.{Float, nan}
 use Rattle.meaning.specs.Scalar.{plain, zero64}
 use Rattle.meaning.specs.Table.{at1}
-use Rattle.refusal.specs.declared.Refusal.{Refusal}
-use Rattle.refusal.specs.Refusals.{row, first_of, refusal}
+use Rattle.refusal.specs.Refusals.{Verdict, row, first_of, refusal}
 use Rattle.refusal.proofs.Rows.{Passed, number_of, numbered, row-applies, row-passes, row_passed, no_rows, second_decides, first_decides, both_pass, passed_none}
 use Rattle.knots.specs.declared.Form.{Form}
 use Rattle.knots.specs.declared.Form.TheVariants.{Control}
@@ -21,7 +20,7 @@ use Rattle.knots.proofs.Accepted.{Accepted, accepted}
 use Rattle.knots.proofs.Refused.{numbered-knots}
 use Rattle.outcome.specs.Outcome.{some_wild}
 use Rattle.outcome.proofs.Doors.{put_all}
-use Rattle.shape.specs.Shape.{points_in, given_knots, slice_shape}
+use Rattle.shape.specs.Shape.{points_in, given_knots}
 use Rattle.shape.specs.Rules.{handle_rules}
 
 module _ (form : Form) (coords : List Float) (given : Bool) (ks : List Float) where
@@ -33,7 +32,7 @@ module _ (form : Form) (coords : List Float) (given : Bool) (ks : List Float) wh
   unfolding handle_rules
   odd_handles h = sym (row-applies _ _ (ap not (ne_eqb (length coords % 2) 0 h)))
 
-  module _ (even : length coords % 2 ≡ 0) {r : Refusal} (known : r ≡ first_of (knot_rules form (points_in coords) given ks)) where
+  module _ (even : length coords % 2 ≡ 0) {r : Verdict} (known : r ≡ first_of (knot_rules form (points_in coords) given ks)) where
     even_handles : first_of (handle_rules form coords given ks) ≡ first_of (knot_rules form (points_in coords) given ks ++ (row 11 (some_wild coords (length coords)) ∷ []))
     unfolding handle_rules
     even_handles = row-passes _ _ (ap not (eq-eqb (length coords % 2) 0 even))

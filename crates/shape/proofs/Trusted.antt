@@ -9,8 +9,7 @@ use lib.ListN.{length, take, length-take}
 use lib.Dec.{T, leb}
 use lib.Ieee.{Float}
 use Rattle.meaning.proofs.Tests.{by_two}
-use Rattle.refusal.specs.declared.Refusal.{Refusal}
-use Rattle.refusal.specs.Refusals.{row, first_of, refusal}
+use Rattle.refusal.specs.Refusals.{Verdict, row, first_of, refusal}
 use Rattle.refusal.proofs.Rows.{Passed, number_of, numbered, row-applies, row-passes, no_rows, second_decides, first_decides, both_pass, passed_none}
 use Rattle.knots.specs.declared.Form.TheVariants.{Control}
 use Rattle.knots.specs.Rules.{knot_rules}
@@ -51,7 +50,7 @@ module _ (n k : ℕ) (ks : List Float) where
 
 -- ---- the rules of a shape, from its parts
 
-module _ (k : ℕ) (s : Shape Float) {r : Refusal} (known : r ≡ first_of (knot_rules Control s.n true (counted_knots k s.knots))) where
+module _ (k : ℕ) (s : Shape Float) {r : Verdict} (known : r ≡ first_of (knot_rules Control s.n true (counted_knots k s.knots))) where
   pub knots_refused : (r.number ≡ 0 → ⊥) → r ≡ first_of (shape_rules k s)
   unfolding shape_rules
   knots_refused h = known ∙ sym (first_decides _ _ (λ z. h (number_of known ∙ z)))

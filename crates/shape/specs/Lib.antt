@@ -2,4 +2,5 @@
 pub mod Shape
 pub mod Rules
 pub mod Offered
+pub mod Spline
 pub mod Trusting

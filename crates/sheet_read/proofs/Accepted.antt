@@ -22,11 +22,9 @@ use Rattle.knots.specs.declared.Form.{Form}
 use Rattle.knots.specs.declared.Form.TheVariants.{Control, Fit}
 use Rattle.sheet_read.specs.Text.{text, byte_at, word_stands}
 use Rattle.sheet_read.specs.Number.{number_at, double_stands}
-use Rattle.sheet_read.specs.Grammar.{byte_after, number_place, numbers_stand, numbers_at, section_at, form_text, form_of, sheet_of}
+use Rattle.sheet_read.specs.Grammar.{byte_after, number_place, numbers_stand, numbers_at, Section, section_at, form_text, form_of, Sheet, sheet_of}
 use Rattle.sheet_read.specs.Written.{digits_text, count_text, numbers_text, section_text, formed_text}
 use Rattle.sheet_read.specs.Content.{Lines, Content, Fits, Within, bits_of, written, bits_at, lines_at, said_by, said}
-use Rattle.sheet_read.specs.declared.Section.{Section}
-use Rattle.sheet_read.specs.declared.Sheet.{Sheet}
 use Rattle.sheet_read.proofs.Numerals.{digit_small}
 use Rattle.sheet_read.proofs.Sections.{whole, assembled, limits}
 use Rattle.sheet_read.proofs.Canonical.{number_more, canonical}

@@ -17,13 +17,12 @@ use Rattle.meaning.proofs.Searching.{seek-first}
 use Rattle.meaning.specs.Search.{every}
 use Rattle.knots.specs.declared.Form.{Form}
 use Rattle.knots.specs.declared.Form.TheVariants.{Control, Fit}
-use Rattle.sheet_read.specs.Text.{text, byte_at, word_stands}
+use Rattle.sheet_read.specs.Text.{text, byte_at, solid, word_stands}
 use Rattle.sheet_read.specs.Number.{is_decimal, is_letter, is_hex, digit_of, glyph, number_at, digits_at, count_at, count_stands, double_stands}
-use Rattle.sheet_read.specs.Grammar.{byte_after, number_place, numbers_stand, no_section, section_at, form_text, form_stands, form_of, sheet_of}
+use Rattle.sheet_read.specs.Grammar.{byte_after, number_place, numbers_stand, Section, no_section, section_at, form_text, form_stands, form_of, sheet_of}
 use Rattle.sheet_read.specs.Written.{digits_text, count_text, numbers_text, section_text, formed_text}
 use Rattle.sheet_read.specs.Content.{bits_at}
 use Rattle.meaning.proofs.Every.{each}
-use Rattle.sheet_read.specs.declared.Section.{Section}
 use Rattle.sheet_read.proofs.Sections.{whole}
 use Rattle.sheet_read.proofs.Numerals.{not_below, not_above_lem, decimal_is, letter_is, few_digits, first_digit, at_least_one, no_zero}
 
@@ -54,11 +53,6 @@ module _ (s : List ℕ) where
   one_byte a b e h = record { rest = drop-cons s a 0 (within_text a b e h) ∙ (λ i. e i ∷ drop (sym (add-one a) i) s) }
 
   -- ---- a word
-
-  -- no byte of it is 0
-  abbrev solid : List ℕ → Bool
-  solid [] = true
-  solid (x ∷ w) = ltb 0 x && solid w
 
   spelt : (w : List ℕ) (a : ℕ) → solid w ≡ true → ((i : ℕ) → i < length w → byte_at s (a + i) ≡ byte_at w i) → Stands s a w (a + length w)
   spelt [] a h e = rw (add-zero a) nothing
@@ -218,7 +212,7 @@ module _ (s : List ℕ) where
   formed_by true r h = refl
   formed_by false r h = no h
 
-  module _ (w : List ℕ) (most per at : ℕ) (visible : solid s w ≡ true) (h : (section_at s w most per at).formed ≡ true) where
+  module _ (w : List ℕ) (most per at : ℕ) (visible : solid w ≡ true) (h : (section_at s w most per at).formed ≡ true) where
     tests : word_stands s w at
         && (count_stands s most (at + length w)
         && numbers_stand s per (per * count_at s (at + length w)) (at + length w + digits_at s (at + length w) + 1))

@@ -12,8 +12,7 @@ use Rattle.meaning.specs.Loops.{turns}
 use Rattle.meaning.proofs.Tests.{by_two, and_right}
 use Rattle.sheet_read.specs.Text.{text, byte_at, word_stands}
 use Rattle.sheet_read.specs.Number.{digit_of, number_at, digits_at, count_at, count_stands}
-use Rattle.sheet_read.specs.Grammar.{numbers_stand, section_at, form_text, form_stands, form_of, sheet_of}
-use Rattle.sheet_read.specs.declared.Section.{Section}
+use Rattle.sheet_read.specs.Grammar.{numbers_stand, Section, section_at, form_text, form_stands, form_of, sheet_of}
 use Rattle.sheet_read.proofs.Numerals.{few_digits, counted, first_digit, at_least_one, no_zero}
 use Rattle.sheet_read.proofs.Sections.{no_word, no_count, no_numbers, whole, few-numbers, first_line}
 

@@ -12,9 +12,7 @@ use Rattle.knots.specs.declared.Form.{Form}
 use Rattle.knots.specs.declared.Form.TheVariants.{Control, Fit}
 use Rattle.sheet_read.specs.Text.{text, word_stands}
 use Rattle.sheet_read.specs.Number.{number_at, digits_at, count_at, count_stands}
-use Rattle.sheet_read.specs.Grammar.{numbers_stand, no_section, section_at, form_text, form_stands, form_of, sheet_of}
-use Rattle.sheet_read.specs.declared.Section.{Section}
-use Rattle.sheet_read.specs.declared.Sheet.{Sheet}
+use Rattle.sheet_read.specs.Grammar.{numbers_stand, Section, no_section, section_at, form_text, form_stands, form_of, Sheet, sheet_of}
 use Rattle.sheet_read.proofs.Numerals.{counted, few_digits}
 
 module _ (s w : List ℕ) (most per at : ℕ) where

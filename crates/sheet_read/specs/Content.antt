@@ -4,10 +4,8 @@ use Rattle.std.specs.Prelude.{ℕ, ◌*◌, ◌^◌, ◌≤◌, ◌<◌, ◌≡�
 use Rattle.meaning.specs.Search.{listed}
 use Rattle.knots.specs.declared.Form.{Form}
 use Rattle.sheet_read.specs.Number.{number_at}
-use Rattle.sheet_read.specs.Grammar.{number_place, sheet_of}
+use Rattle.sheet_read.specs.Grammar.{number_place, Section, Sheet, sheet_of}
 use Rattle.sheet_read.specs.Written.{formed_text}
-use Rattle.sheet_read.specs.declared.Section.{Section}
-use Rattle.sheet_read.specs.declared.Sheet.{Sheet}
 
 -- ---- what is written
 

@@ -5,8 +5,6 @@ use Rattle.knots.specs.declared.Form.{Form}
 use Rattle.knots.specs.declared.Form.TheVariants.{Control, Fit}
 use Rattle.sheet_read.specs.Text.{text, word_stands}
 use Rattle.sheet_read.specs.Number.{digits_at, count_at, count_stands, double_stands, double_at}
-use Rattle.sheet_read.specs.declared.Section.{Section}
-use Rattle.sheet_read.specs.declared.Sheet.{Sheet}
 
 -- a number takes 17 bytes, with the byte after it: a space, or where it is the last of its line the line's end
 abbrev pub number_place : ℕ → ℕ → ℕ
@@ -25,6 +23,13 @@ unfolding double_at
 numbers_at s start n = listed 0 n (λ j. double_at s (number_place start j))
 
 -- ---- a section
+
+-- whether it has the form, how many lines it has, where its first number stands, and where what comes after it does
+pub record Section : Type 0 where
+  pub formed : Bool
+  pub count : ℕ
+  pub start : ℕ
+  pub next : ℕ
 
 abbrev pub no_section : Section
 no_section = record { formed = false; count = 0; start = 0; next = 0 }
@@ -54,6 +59,14 @@ abbrev pub form_of : List ℕ → Form
 form_of s = cond (form_stands s Fit) Fit Control
 
 -- ---- the sheet
+
+-- whether it has the form, what its points are, and its sections
+pub record Sheet : Type 0 where
+  pub formed : Bool
+  pub form : Form
+  pub points : Section
+  pub knots : Section
+  pub parameters : Section
 
 unfoldable pub sheet_of : List ℕ → Sheet
 unfolding word_stands section_at

@@ -5,3 +5,4 @@ pub mod Grammar
 pub mod Written
 pub mod Content
 pub mod Line
+pub mod Read

@@ -1,7 +1,11 @@
 -- Inner: a line of hexadecimal digits, as the files of recorded cases have them.
-use Rattle.std.specs.Prelude.{ℕ, true, false, ◌&&◌, cond, List, leb}
+use Rattle.std.specs.Prelude.{ℕ, Bool, true, false, ◌&&◌, cond, List, leb}
 use Rattle.sheet_read.specs.Number.{number_at, hex_stands}
-use Rattle.sheet_read.specs.declared.Line.{Line}
+
+-- a line: whether it has the form, and the number that it writes
+pub record Line : Type 0 where
+  pub formed : Bool
+  pub bits : ℕ
 
 abbrev pub no_line : Line
 no_line = record { formed = false; bits = 0 }

@@ -8,17 +8,16 @@ use native.Mathlib.Omega.{arith}
 use borrow.Author.Tests.{leb-true, leb-false, le-ltb}
 use lib.Dec.{leb}
 use lib.ListN.{length, take, replicate, length-replicate}
-use lib.Seq.{paste, take_all, take-paste, take-length, length-paste, length-take-le}
+use lib.Seq.{paste, take_all, take-paste, take-length, length-take-le}
 use lib.Ieee.{Float}
 use Rattle.meaning.proofs.Tests.{by_two, refuted}
 use Rattle.refusal.specs.Refusals.{refusal}
 use Rattle.sheet_read.specs.Grammar.{sheet_of}
 use Rattle.sheet_read.proofs.Longest.{longest}
 use Rattle.sheet_text.specs.Printed.{refusal_text}
-use Rattle.curve.specs.declared.Built.{Built}
+use Rattle.curve.specs.Build.{Built}
 use Rattle.sheet_text.specs.Answer.{parameters_of, too_short, Answered}
 use Rattle.sheet_text.specs.Promise.{BuiltPromise, SheetPromise}
-use Rattle.sheet_text.proofs.Sheets.{answer_short}
 use Rattle.sheet_rooms.specs.declared.Answer.{Answer}
 use Rattle.sheet_rooms.specs.Reply.{reply_text, reply_to, ReplyPromise, ReadInto, Replies}
 use Rattle.sheet_rooms.proofs.Works.{build_is, answer_is}
@@ -91,14 +90,6 @@ module _ (room : List ℕ) (n : ℕ) {k : ℕ} {work : List Float} {count : ℕ}
   unfolding reply_to
   replied =
       (λ i. record { bytes = bytes_are out-room enough a i; count = count_is out-room enough a i }) ∙ ap (λ (t : List ℕ). record { bytes = paste (replicate 36876 0) 0 t (length t); count = length t }) text_is
-
-  pub counted : count ≤ length out'
-  counted =
-      let t = reply_text (take k room) in
-      let short : length t ≤ 36876 = rw (← answer_is work enough (take k room)) (answer_short (take k room) work) in
-      let long : length out' ≡ 36876 =
-      ap length (bytes_are out-room enough a) ∙ length-paste (replicate 36876 0) 0 t (length t) (omega (arith, out-room)) (le_refl (length t)) ∙ length-replicate {A = ℕ} 36876 0 in
-      omega (arith, count_is out-room enough a)
 
   pub promised : (too_short (replicate 36876 0) ≡ false → SheetPromise (take k room) work) → ReplyPromise (take n room)
   promised h =

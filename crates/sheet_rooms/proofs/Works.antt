@@ -13,13 +13,11 @@ use Rattle.knots.specs.declared.Form.{Form}
 use Rattle.knots.specs.declared.Form.TheVariants.{Control, Fit}
 use Rattle.shape.specs.Rules.{handle_rules}
 use Rattle.curve.specs.declared.Curve.{Curve}
-use Rattle.curve.specs.declared.Built.{Built}
-use Rattle.curve.specs.Build.{building}
+use Rattle.curve.specs.Build.{Built, building}
 use Rattle.curve.proofs.Builds.{handles_refused, room_refused}
 use Rattle.fit.proofs.Asked.{fit_room, work-small}
 use Rattle.build.specs.Build.{curve_of, lacks_work, rules_of}
-use Rattle.sheet_read.specs.declared.Sheet.{Sheet}
-use Rattle.sheet_read.specs.Grammar.{sheet_of}
+use Rattle.sheet_read.specs.Grammar.{Sheet, sheet_of}
 use Rattle.sheet_text.specs.Printed.{refusal_text}
 use Rattle.sheet_text.specs.Curves.{built_text}
 use Rattle.sheet_text.specs.Answer.{points_of, knots_of, given_of, parameters_of, sheet_build, sheet_text, answer_text}

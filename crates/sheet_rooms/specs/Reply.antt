@@ -2,11 +2,9 @@
 use Rattle.std.specs.Prelude.{◌≡◌, true, false, cond, List, ℕ, min, length, take, replicate}
 use Rattle.std.proofs.Math.Seq.{paste}
 use Rattle.refusal.specs.Refusals.{refusal}
-use Rattle.curve.specs.declared.Built.{Built}
-use Rattle.curve.specs.Build.{building}
+use Rattle.curve.specs.Build.{Built, building}
 use Rattle.build.specs.Build.{curve_of, rules_of}
-use Rattle.sheet_read.specs.declared.Sheet.{Sheet}
-use Rattle.sheet_read.specs.Grammar.{sheet_of}
+use Rattle.sheet_read.specs.Grammar.{Sheet, sheet_of}
 use Rattle.sheet_text.specs.Printed.{refusal_text}
 use Rattle.sheet_text.specs.Curves.{built_text}
 use Rattle.sheet_text.specs.Answer.{points_of, knots_of, given_of, parameters_of}

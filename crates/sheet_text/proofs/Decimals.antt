@@ -23,8 +23,8 @@ use Rattle.curve.specs.Build.{building, build_rules}
 use Rattle.fit.specs.Fit.{curve_through}
 use Rattle.build.specs.Build.{curve_of, rules_of}
 use Rattle.point.specs.Point.{point_answer}
-use Rattle.sheet_read.specs.declared.Sheet.{Sheet}
 use Rattle.sheet_read.specs.Number.{glyph}
+use Rattle.sheet_read.specs.Grammar.{Sheet}
 use Rattle.sheet_read.specs.Written.{digits_text, count_text}
 use Rattle.sheet_read.proofs.Sections.{Limits}
 use Rattle.sheet_text.specs.Printed.{decimal_text}

@@ -11,17 +11,16 @@ use lib.Ieee.{Float, nan}
 use Rattle.meaning.specs.Scalar.{plain}
 use Rattle.meaning.specs.Table.{at1}
 use Rattle.meaning.proofs.Tests.{by_two}
-use Rattle.refusal.specs.declared.Refusal.{Refusal}
-use Rattle.refusal.specs.Refusals.{is_none}
+use Rattle.refusal.specs.Refusals.{Verdict, is_none}
 use Rattle.outcome.specs.Outcome.{outcome}
 use Rattle.curve.specs.declared.Curve.{Curve}
-use Rattle.curve.specs.declared.Built.{Built}
+use Rattle.curve.specs.Build.{Built}
 use Rattle.sheet_text.specs.Printed.{refusal_text, head_text, point_text}
 use Rattle.sheet_text.specs.Put.{Put}
 use Rattle.sheet_text.specs.Curves.{line_answer, line_text, lines_text, built_text}
 use Rattle.sheet_text.proofs.Putting.{joined, nothing, refusal_short, head_short, point_long}
 
-module _ (c : Curve) (t : Float) {r : Refusal} {xy : List Float} (told : outcome r xy ≡ line_answer c t) where
+module _ (c : Curve) (t : Float) {r : Verdict} {xy : List Float} (told : outcome r xy ≡ line_answer c t) where
   pub line_refused : (r.number ≡ 0 → ⊥) → line_text c t ≡ refusal_text r
   unfolding line_text
   line_refused h = rw (← told, ne_eqb r.number 0 h)

@@ -10,8 +10,7 @@ use lib.Dec.{lit≤}
 use lib.Ieee.{Float, nan}
 use Rattle.meaning.specs.Scalar.{plain, zero64}
 use Rattle.meaning.specs.Table.{at1}
-use Rattle.refusal.specs.declared.Refusal.{Refusal}
-use Rattle.refusal.specs.Refusals.{refusal, none, first_of}
+use Rattle.refusal.specs.Refusals.{Verdict, refusal, none, first_of}
 use Rattle.refusal.proofs.Rows.{number_of, passed_none}
 use Rattle.outcome.specs.Outcome.{outcome}
 use Rattle.curve.proofs.Recheck.{record_sound}
@@ -19,8 +18,7 @@ use Rattle.curve.specs.declared.Curve.{Curve}
 use Rattle.curve.specs.Record.{by_record}
 use Rattle.build.proofs.Doors.{build_accepted}
 use Rattle.hull.specs.Promise.{InItsHull, NeverRefused}
-use Rattle.sheet_read.specs.declared.Sheet.{Sheet}
-use Rattle.sheet_read.specs.Grammar.{sheet_of}
+use Rattle.sheet_read.specs.Grammar.{Sheet, sheet_of}
 use Rattle.sheet_text.specs.Printed.{refusal_text, head_text, point_text}
 use Rattle.sheet_text.specs.Curves.{line_answer, line_text, lines_text}
 use Rattle.sheet_text.specs.Answer.{points_of, knots_of, given_of, parameters_of, sheet_build, sheet_text, answer_text}
@@ -28,7 +26,7 @@ use Rattle.sheet_text.specs.Promise.{is_point, LinePromise}
 use Rattle.sheet_text.proofs.Front.{numbers-long}
 use Rattle.sheet_text.proofs.Lines.{line_refused, line_point, lines_append, built_printed}
 
-refusal_line : (r : Refusal) → is_point (refusal_text r) ≡ false
+refusal_line : (r : Verdict) → is_point (refusal_text r) ≡ false
 unfolding refusal_text
 refusal_line r = refl
 
@@ -36,7 +34,7 @@ point_line : (x y : Float) → is_point (point_text x y) ≡ true
 unfolding point_text
 point_line x y = refl
 
-module _ (c : Curve) (t : Float) {r : Refusal} {xy : List Float} (told : outcome r xy ≡ line_answer c t) (h : InItsHull (by_record c) t r xy)
+module _ (c : Curve) (t : Float) {r : Verdict} {xy : List Float} (told : outcome r xy ≡ line_answer c t) (h : InItsHull (by_record c) t r xy)
     (n : NeverRefused (by_record c) t 0 (replicate 2 zero64) r) where
   pub refused_promise : (r.number ≡ 0 → ⊥) → LinePromise c t
   refused_promise z =

@@ -14,9 +14,9 @@ use Rattle.meaning.proofs.Filling.{length-listed}
 use Rattle.meaning.proofs.Pasting.{twice}
 use Rattle.sheet_read.specs.Text.{text}
 use Rattle.sheet_read.specs.Number.{glyph}
-use Rattle.refusal.specs.declared.Refusal.{Refusal}
 use Rattle.sheet_text.specs.Printed.{hex_text, decimal_text, double_text, refusal_text, head_text, point_text}
 use Rattle.sheet_text.specs.Put.{Put}
+use Rattle.refusal.specs.Refusals.{Verdict}
 
 module _ {out : List ℕ} {at : ℕ} where
   -- nothing is put in
@@ -60,7 +60,7 @@ double-long x = hex_long (to_bits binary64 x)
 line_end : (t : List ℕ) → length (t ++ text "\n") ≡ length t + 1
 line_end t = length-append t (text "\n")
 
-pub refusal_short : (r : Refusal) → length (refusal_text r) ≤ 5
+pub refusal_short : (r : Verdict) → length (refusal_text r) ≤ 5
 unfolding refusal_text
 refusal_short r = rw (line_end (text "r " ++ decimal_text r.number)) (omega (arith, few_decimal r.number))
 

@@ -4,8 +4,7 @@ use Rattle.std.proofs.Math.Seq.{paste}
 use Rattle.refusal.specs.Refusals.{refusal}
 use Rattle.fit.specs.Fit.{Making}
 use Rattle.build.specs.Build.{built}
-use Rattle.sheet_read.specs.declared.Sheet.{Sheet}
-use Rattle.sheet_read.specs.Grammar.{numbers_at, sheet_of}
+use Rattle.sheet_read.specs.Grammar.{numbers_at, Sheet, sheet_of}
 use Rattle.sheet_text.specs.Printed.{refusal_text}
 use Rattle.sheet_text.specs.Curves.{built_text}
 

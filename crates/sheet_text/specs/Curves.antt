@@ -5,7 +5,7 @@ use Rattle.meaning.specs.Table.{at1}
 use Rattle.refusal.specs.Refusals.{is_none}
 use Rattle.outcome.specs.Outcome.{Outcome}
 use Rattle.curve.specs.declared.Curve.{Curve}
-use Rattle.curve.specs.declared.Built.{Built}
+use Rattle.curve.specs.Build.{Built}
 use Rattle.curve.specs.Record.{by_record}
 use Rattle.point.specs.Point.{point_answer}
 use Rattle.sheet_text.specs.Printed.{refusal_text, head_text, point_text}

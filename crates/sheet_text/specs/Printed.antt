@@ -4,9 +4,9 @@ use Prim.Native.String.{String}
 use Rattle.std.specs.Float.{binary64}
 use Rattle.std.specs.Float.Ieee.{to_bits}
 use Rattle.meaning.specs.Search.{listed}
-use Rattle.refusal.specs.declared.Refusal.{Refusal}
 use Rattle.sheet_read.specs.Text.{text}
 use Rattle.sheet_read.specs.Number.{glyph}
+use Rattle.refusal.specs.Refusals.{Verdict}
 
 -- 64 bits as 16 digits, four bits to each
 unfoldable pub hex_text : ℕ → List ℕ
@@ -27,7 +27,7 @@ double_text x = hex_text (to_bits binary64 x)
 abbrev pub worded : String → List ℕ → List ℕ
 worded w number = text w ++ number
 
-unfoldable pub refusal_text : Refusal → List ℕ
+unfoldable pub refusal_text : Verdict → List ℕ
 unfolding decimal_text
 refusal_text r = worded "r " (decimal_text r.number) ++ text "\n"
 

@@ -6,12 +6,11 @@ use Rattle.meaning.specs.Table.{at1}
 use Rattle.refusal.specs.Refusals.{none, first_of}
 use Rattle.shape.specs.Shape.{Shape}
 use Rattle.curve.specs.declared.Curve.{Curve}
-use Rattle.curve.specs.declared.Built.{Built}
+use Rattle.curve.specs.Build.{Built}
 use Rattle.curve.specs.Record.{by_record}
 use Rattle.hull.specs.Asked.{InDomain, Drawable}
 use Rattle.hull.specs.Promise.{PointInHull}
-use Rattle.sheet_read.specs.declared.Sheet.{Sheet}
-use Rattle.sheet_read.specs.Grammar.{sheet_of}
+use Rattle.sheet_read.specs.Grammar.{Sheet, sheet_of}
 use Rattle.sheet_text.specs.Printed.{point_text}
 use Rattle.sheet_text.specs.Curves.{line_text}
 use Rattle.sheet_text.specs.Answer.{parameters_of, sheet_build}

@@ -1,19 +1,23 @@
 // A sheet's answer: the lines that are printed of it, put into a lent slice of bytes.
 #![tactic(auto)]
 
-ghost use Rattle.std.specs.Prelude.{◌≡◌, false, ◌++◌, ◌+◌, ◌*◌, ◌≤◌, ◌<◌, length, take};
+ghost use Rattle.std.specs.Prelude.{◌≡◌, false, ◌++◌, ◌+◌, ◌*◌, ◌≤◌, ◌<◌, length};
+ghost use Rattle.refusal.specs.Refusals.{refusal, number_by};
+ghost use Rattle.curve.specs.Build.{build_of};
 ghost use Rattle.sheet_read.specs.Number.{glyph};
 ghost use Rattle.sheet_read.specs.Grammar.{numbers_at};
+ghost use Rattle.sheet_read.specs.Read.{sheet_view};
 ghost use Rattle.sheet_read.proofs.Sections.{Limits};
 ghost use Rattle.sheet_text.specs.Printed.{hex_text, decimal_text, double_text, refusal_text, head_text, point_text};
-ghost use Rattle.sheet_text.specs.Put.{Put};
+ghost use Rattle.sheet_text.specs.Put.{Puts};
 ghost use Rattle.sheet_text.specs.Curves.{line_text, lines_text, built_text};
-ghost use Rattle.sheet_text.specs.Answer.{sheet_text, sheet_work, too_short, Answered};
+ghost use Rattle.sheet_text.specs.Answer.{sheet_text, sheet_work, answer_text, answer_work, too_short, Answered};
 ghost use Rattle.sheet_text.specs.Promise.{LinePromise, LinePromises, BuiltPromise, ReadPromise, SheetPromise};
 
-use curve::{Built, Curve};
+use curve::Curve;
 use refusal::Refusal;
-use sheet_read::Sheet;
+use sheet_read::{Section, Sheet};
+use std::array;
 
 // ---- digits
 
@@ -22,173 +26,195 @@ fn glyph(d: u64) -> u8
     requires { d < 16 }
     ensures { result ≡ glyph d }
 {
-    if d < 10 {
-        return (48 + d) as u8;
-    }
-    (55 + d) as u8
+    b"0123456789ABCDEF"[d as usize]
 }
 
 // The 16 digits of b.
 fn hex_digits(b: u64) -> [u8; 16]
     ensures { result ≡ hex_text b }
 {
-    let mut h = [0u8; 16];
-    for i in 0..16 {
-        let k = 60 - 4 * i as u64;
-        h[i] = glyph((b >> k) % 16);
+    array::from_fn(|i| glyph((b >> (60 - 4 * i as u64)) % 16))
+}
+
+// ---- a page
+
+// A lent slice that is written from its front on: `at` bytes are.
+#[derive(Drop)]
+struct Page<'a> {
+    room: &'a mut [u8],
+    at: usize,
+}
+
+// Stays: printed by hand, since `write!` may fail by its contract, and `answer` may not (`Answered`).
+impl Page<'_> {
+    // Puts the bytes w behind what is written.
+    fn put(&mut self, w: &[u8])
+        requires { self.old.at + length w.now ≤ length self.old.room.now }
+        ensures same { self.new.room.ghost_name ≡ self.old.room.ghost_name }
+        ensures text { Puts self.old w.now self.new }
+    {
+        let end = self.at + w.len();
+        self.room[self.at..end].copy_from_slice(w);
+        self.at = end;
     }
-    h
-}
 
-// ---- lines
-
-// Puts the bytes w into out from index `at` on, and answers the index after them.
-fn put(out: &mut [u8], at: usize, w: &[u8]) -> usize
-    requires { at + length w.now ≤ length out.old }
-    ensures { Put out.old at w.now out.new result }
-{
-    for i in 0..w.len() {
-        out[at + i] = w[i];
+    // A number below 100.
+    fn put_decimal(&mut self, n: u64)
+        requires { self.old.at + 2 ≤ length self.old.room.now }
+        ensures same { self.new.room.ghost_name ≡ self.old.room.ghost_name }
+        ensures text { Puts self.old (decimal_text n) self.new }
+    {
+        if n < 10 {
+            self.put(&[glyph(n)]);
+        } else {
+            self.put(&[glyph(n / 10 % 10), glyph(n % 10)]);
+        }
     }
-    at + w.len()
-}
 
-// A number below 100.
-fn put_decimal(out: &mut [u8], at: usize, n: u64) -> usize
-    requires { at + 2 ≤ length out.old }
-    ensures { Put out.old at (decimal_text n) out.new result }
-{
-    if n < 10 {
-        return put(out, at, &[glyph(n)]);
+    // A word, and a number below 100 after it.
+    fn put_number(&mut self, w: &[u8], n: u64)
+        requires { self.old.at + (length w.now + 2) ≤ length self.old.room.now }
+        ensures same { self.new.room.ghost_name ≡ self.old.room.ghost_name }
+        ensures text { Puts self.old (w.now ++ decimal_text n) self.new }
+    {
+        self.put(w);
+        self.put_decimal(n);
     }
-    put(out, at, &[glyph(n / 10 % 10), glyph(n % 10)])
-}
 
-// A word, and a number below 100 after it.
-fn put_number(out: &mut [u8], at: usize, w: &[u8], n: u64) -> usize
-    requires { at + (length w.now + 2) ≤ length out.old }
-    ensures { Put out.old at (w.now ++ decimal_text n) out.new result }
-{
-    let a = put(out, at, w);
-    put_decimal(out, a, n)
-}
-
-// A word, and the digits of x after it.
-fn put_double(out: &mut [u8], at: usize, w: &[u8], x: f64) -> usize
-    requires { at + (length w.now + 16) ≤ length out.old }
-    ensures { Put out.old at (w.now ++ double_text x) out.new result }
-{
-    let a = put(out, at, w);
-    let h = hex_digits(number::bits(x));
-    put(out, a, &h)
-}
-
-// The line of a refusal.
-fn put_refusal(out: &mut [u8], at: usize, refusal: Refusal) -> usize
-    requires { at + 5 ≤ length out.old }
-    ensures { Put out.old at (refusal_text refusal) out.new result }
-{
-    let a = put_number(out, at, b"r ", refusal.number);
-    put(out, a, b"\n")
-}
-
-// The first line of a curve's answer.
-fn put_head(out: &mut [u8], at: usize, points: u64, knots: u64) -> usize
-    requires { at + 12 ≤ length out.old }
-    ensures put { Put out.old at (head_text points knots) out.new result }
-    ensures upper_bound { result ≤ at + 12 }
-{
-    let a = put_number(out, at, b"curve ", points);
-    let b = put_number(out, a, b" ", knots);
-    put(out, b, b"\n")
-}
-
-// The line of a point.
-fn put_point(out: &mut [u8], at: usize, x: f64, y: f64) -> usize
-    requires { at + 36 ≤ length out.old }
-    ensures { Put out.old at (point_text x y) out.new result }
-{
-    let a = put_double(out, at, b"p ", x);
-    let b = put_double(out, a, b" ", y);
-    put(out, b, b"\n")
-}
-
-// ---- a curve
-
-// The line of the parameter t.
-fn put_line(out: &mut [u8], at: usize, c: Curve, t: f64) -> usize
-    requires { at + 36 ≤ length out.old }
-    ensures line { Put out.old at (line_text c t) out.new result }
-    ensures hull { LinePromise c t }
-{
-    let mut xy = [0.0; 2];
-    let r = point::evaluate(c, t, 0, &mut xy);
-    if r.number != 0 {
-        return put_refusal(out, at, r);
+    // A word, and the digits of x after it.
+    fn put_double(&mut self, w: &[u8], x: f64)
+        requires { self.old.at + (length w.now + 16) ≤ length self.old.room.now }
+        ensures same { self.new.room.ghost_name ≡ self.old.room.ghost_name }
+        ensures text { Puts self.old (w.now ++ double_text x) self.new }
+    {
+        self.put(w);
+        self.put(&hex_digits(number::bits(x)));
     }
-    put_point(out, at, xy[0], xy[1])
-}
 
-// The lines of the n parameters that stand in s from `start` on.
-fn put_lines(out: &mut [u8], at: usize, c: Curve, s: &[u8], start: usize, n: usize) -> usize
-    requires fact_1 { (n ≤ 1024) × (start ≤ 5000) }
-    requires fact_2 { at + 36 * n ≤ length out.old }
-    ensures lines { Put out.old at (lines_text c (numbers_at s.now start n)) out.new result }
-    ensures hull { LinePromises c (numbers_at s.now start n) n }
-{
-    let mut next = at;
-    for j in 0..n {
-        next = put_line(out, next, c, sheet_read::double(s, start + 17 * j));
+    // The line of a refusal.
+    fn put_refusal(&mut self, rule: Refusal)
+        requires { self.old.at + 5 ≤ length self.old.room.now }
+        ensures same { self.new.room.ghost_name ≡ self.old.room.ghost_name }
+        ensures text { Puts self.old (refusal_text (refusal (number_by rule))) self.new }
+    {
+        self.put_number(b"r ", rule.number());
+        self.put(b"\n");
     }
-    next
-}
 
-// What is printed of a build at the n parameters that stand in s from `start` on.
-fn put_built(out: &mut [u8], b: Built, s: &[u8], start: usize, n: usize) -> usize
-    requires fact_1 { (n ≤ 1024) × (start ≤ 5000) }
-    requires fact_2 { 12 + 36 * n ≤ length out.old }
-    ensures text { Put out.old 0 (built_text b (numbers_at s.now start n)) out.new result }
-    ensures hull { BuiltPromise b (numbers_at s.now start n) n }
-{
-    let refusal = b.refusal;
-    if refusal.number != 0 {
-        return put_refusal(out, 0, refusal);
+    // The first line of a curve's answer.
+    fn put_head(&mut self, points: u64, knots: u64)
+        requires { self.old.at + 12 ≤ length self.old.room.now }
+        ensures same { self.new.room.ghost_name ≡ self.old.room.ghost_name }
+        ensures text { Puts self.old (head_text points knots) self.new }
+        ensures upper_bound { self.new.at ≤ self.old.at + 12 }
+    {
+        self.put_number(b"curve ", points);
+        self.put_number(b" ", knots);
+        self.put(b"\n");
     }
-    let c = b.curve;
-    let at = put_head(out, 0, c.points as u64, c.knot_count as u64);
-    put_lines(out, at, c, s, start, n)
-}
 
-// Puts the n numbers that stand in s from `start` on into out.
-fn take_numbers(s: &[u8], start: usize, n: usize, out: &mut [f64])
-    requires fact_1 { (n ≤ 1024) × (start ≤ 5000) }
-    requires fact_2 { n ≤ length out.old }
-    ensures { take n out.new ≡ numbers_at s.now start n }
-{
-    for j in 0..n {
-        out[j] = sheet_read::double(s, start + 17 * j);
+    // The line of a point.
+    fn put_point(&mut self, x: f64, y: f64)
+        requires { self.old.at + 36 ≤ length self.old.room.now }
+        ensures same { self.new.room.ghost_name ≡ self.old.room.ghost_name }
+        ensures text { Puts self.old (point_text x y) self.new }
+    {
+        self.put_double(b"p ", x);
+        self.put_double(b" ", y);
+        self.put(b"\n");
+    }
+
+    // The line of the parameter t.
+    fn put_line(&mut self, c: &Curve, t: f64)
+        requires { self.old.at + 36 ≤ length self.old.room.now }
+        ensures same { self.new.room.ghost_name ≡ self.old.room.ghost_name }
+        ensures text { Puts self.old (line_text c.now t) self.new }
+        ensures hull { LinePromise c.now t }
+    {
+        let mut xy = [0.0; 2];
+        match point::evaluate(c, t, 0, &mut xy) {
+            Ok(()) => self.put_point(xy[0], xy[1]),
+            Err(rule) => self.put_refusal(rule),
+        }
+    }
+
+    // The lines of the parameters that stand in s.
+    fn put_lines(&mut self, c: &Curve, s: &[u8], parameters: Section)
+        requires few { (parameters.count ≤ 1024) × (parameters.start ≤ 5000) }
+        requires room { self.old.at + 36 * parameters.count ≤ length self.old.room.now }
+        ensures same { self.new.room.ghost_name ≡ self.old.room.ghost_name }
+        ensures text { Puts self.old (lines_text c.now (numbers_at s.now parameters.start parameters.count)) self.new }
+        ensures hull { LinePromises c.now (numbers_at s.now parameters.start parameters.count) parameters.count }
+    {
+        // Stays: each turn reads at the place that its index gives.
+        for j in 0..parameters.count {
+            self.put_line(c, sheet_read::double(s, parameters.start + 17 * j));
+        }
+    }
+
+    // What is printed of a build at the parameters that stand in s.
+    fn put_built(&mut self, b: Result<Curve, Refusal>, s: &[u8], parameters: Section)
+        requires few { (parameters.count ≤ 1024) × (parameters.start ≤ 5000) }
+        requires room { self.old.at + (12 + 36 * parameters.count) ≤ length self.old.room.now }
+        ensures same { self.new.room.ghost_name ≡ self.old.room.ghost_name }
+        ensures text { Puts self.old (built_text (build_of b) (numbers_at s.now parameters.start parameters.count)) self.new }
+        ensures hull { BuiltPromise (build_of b) (numbers_at s.now parameters.start parameters.count) parameters.count }
+    {
+        match b {
+            Ok(c) => {
+                self.put_head(c.points as u64, c.knot_count as u64);
+                self.put_lines(&c, s, parameters);
+            }
+            Err(rule) => self.put_refusal(rule),
+        }
     }
 }
 
 // ---- the sheet
 
-// The answer to the sheet x, which s is the text of.
-fn answer_sheet(s: &[u8], x: Sheet, out: &mut [u8], work: &mut [f64]) -> usize
-    requires fact_1 { Limits x }
-    requires fact_2 { 36876 ≤ length out.old }
-    ensures text { Put out.old 0 (sheet_text s.now x work.old) out.new result }
-    ensures work { work.new ≡ sheet_work s.now x work.old }
-    ensures hull { ReadPromise s.now x work.old }
+// Puts the numbers that stand in s from `start` on into out.
+fn take_numbers(s: &[u8], start: usize, out: &mut [f64])
+    requires { (length out.old ≤ 1024) × (start ≤ 5000) }
+    ensures { out.new ≡ numbers_at s.now start (length out.old) }
 {
-    let n = 2 * x.points.count;
-    let k = x.knots.count;
+    for (j, x) in out.iter_mut().enumerate() {
+        *x = sheet_read::double(s, start + 17 * j);
+    }
+}
+
+// Prints the sheet x, which s is the text of.
+fn put_sheet(page: &mut Page<'_>, s: &[u8], x: Sheet, work: &mut [f64])
+    requires limits { Limits (sheet_view x) }
+    requires room { page.old.at + 36876 ≤ length page.old.room.now }
+    ensures same { page.new.room.ghost_name ≡ page.old.room.ghost_name }
+    ensures text { Puts page.old (sheet_text s.now (sheet_view x) work.old) page.new }
+    ensures work { work.new ≡ sheet_work s.now (sheet_view x) work.old }
+    ensures hull { ReadPromise s.now (sheet_view x) work.old }
+{
     let mut points = [0.0; 132];
-    take_numbers(s, x.points.start, n, &mut points);
+    let points = &mut points[..2 * x.points.count];
+    take_numbers(s, x.points.start, points);
     let mut knots = [0.0; 70];
-    take_numbers(s, x.knots.start, k, &mut knots);
-    let form = x.form;
-    let b = build::build(form, &points[..n], k != 0, &knots[..k], work);
-    put_built(out, b, s, x.parameters.start, x.parameters.count)
+    let knots = &mut knots[..x.knots.count];
+    take_numbers(s, x.knots.start, knots);
+    // `knots 0` means none given
+    let given = (x.knots.count != 0).then_some(&*knots);
+    let b = build::build(x.form, points, given, work);
+    page.put_built(b, s, x.parameters);
+}
+
+// Prints the answer to the text s.
+fn put_answer(page: &mut Page<'_>, s: &[u8], work: &mut [f64])
+    requires { page.old.at + 36876 ≤ length page.old.room.now }
+    ensures same { page.new.room.ghost_name ≡ page.old.room.ghost_name }
+    ensures text { Puts page.old (answer_text s.now work.old) page.new }
+    ensures work { work.new ≡ answer_work s.now work.old }
+    ensures hull { SheetPromise s.now work.old }
+{
+    match sheet_read::parse_sheet(s) {
+        Some(x) => put_sheet(page, s, x, work),
+        None => page.put_refusal(Refusal::NoSheet),
+    }
 }
 
 // Puts the answer to the text s at the front of out, and answers how many bytes it has. A fit needs work of m² + 2m doubles for m control points.
@@ -200,9 +226,7 @@ pub fn answer(s: &[u8], out: &mut [u8], work: &mut [f64]) -> usize
     if out.len() < 36876 {
         return 0;
     }
-    let x = sheet_read::read_sheet(s);
-    if !x.formed {
-        return put_refusal(out, 0, refusal::by(16));
-    }
-    answer_sheet(s, x, out, work)
+    let mut page = Page { room: out, at: 0 };
+    put_answer(&mut page, s, work);
+    page.at
 }

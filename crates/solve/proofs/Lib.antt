@@ -6,6 +6,7 @@ pub mod Pivots
 pub mod Steps
 pub mod Answers
 pub mod Placed
+pub mod By
 pub mod Reducing
 pub mod Stored
 pub mod Outcomes

@@ -6,7 +6,7 @@ use Prim.Native.Nat.{ℕ, zero, suc, ◌+◌, ◌*◌, ◌≤◌, ◌<◌, suc-l
 use native.Mathlib.Nat.{le_of_suc-le-suc, not-suc-le-zero, zero-add, suc_inj, suc-ne-zero, mul-le-mul_right, suc-mul, zero-lt-suc}
 use native.Mathlib.Omega.{arith}
 use native.Mathlib.Numerals.{add-one}
-use lib.ListN.{length, get_or, set, take, drop, replicate}
+use lib.ListN.{length, get_or, set, take, drop}
 use Rattle.meaning.specs.Loops.{turns}
 
 -- row r ends within m rows of s
@@ -59,15 +59,6 @@ module _ {A : Type 0} where
   blend_start (x ∷ r) (y ∷ t) zero d e h = refl
   blend_start (x ∷ r) (y ∷ t) (suc k) d e h =
       λ i. h zero (zero-lt-suc k) i ∷ blend_start r t k d (suc_inj e) (λ n b. h (suc n) (suc-le-suc b)) i
-
-  -- ---- a loop that fills a list with v
-  fill_suc : (n : ℕ) (v : A) (d : List A) → n < length d → set (replicate n v ++ drop n d) n v ≡ replicate (suc n) v ++ drop (suc n) d
-  fill_suc n v [] l = absurd (not-suc-le-zero l)
-  fill_suc zero v (x ∷ d) l = refl
-  fill_suc (suc n) v (x ∷ d) l = ap (λ (t : List A). v ∷ t) (fill_suc n v d (le_of_suc-le-suc l))
-
-  pub fill_next : (n : ℕ) (v : A) (d t : List A) → t ≡ replicate n v ++ drop n d → n < length d → set t n v ≡ replicate (n + 1) v ++ drop (n + 1) d
-  fill_next n v d t e l = rw (e, add-one n) (fill_suc n v d l)
 
 -- ---- turns from 0 on: one more, and what every turn keeps
 module _ {S : Type 0} (f : ℕ → S → S) where

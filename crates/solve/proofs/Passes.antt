@@ -1,50 +1,37 @@
--- A loop that takes the rows of a buffer, and their order, step by step, and joins a flag with each step's verdict: its invariant, and what it leaves.
--- Assumes nothing.
-use mathlib.Core.Path.{◌≡◌, refl, ◌∙◌}
+-- A loop that takes rows step by step, and joins a flag with each step's verdict: its invariant, and what it leaves. Over any scalar, for any store of
+-- rows. Assumes nothing.
+use mathlib.Core.Path.{◌≡◌, refl}
 use mathlib.Core.Bool.{Bool, true, ◌&&◌}
 use mathlib.Core.List.{List}
 use Prim.Native.Nat.{ℕ, ◌+◌, ◌≤◌, ◌<◌, zero-le}
 use native.Mathlib.Omega.{arith}
-use lib.ListN.{length}
 use Rattle.meaning.specs.Loops.{turns}
 use Rattle.meaning.specs.Search.{every}
 use Rattle.meaning.proofs.Every.{every-none, every_next}
-use Rattle.row_order.specs.Order.{Order}
-use Rattle.solve.specs.Rows.{Shaped}
-use Rattle.solve.specs.Placed.{PlacedBecome}
-use Rattle.solve.proofs.Lists.{turns_next, turns_keep}
+use Rattle.solve.specs.Left.{Becomes}
+use Rattle.solve.proofs.Lists.{turns_next}
 
-module _ {A : Type 0} (m s : ℕ) (step : ℕ → List (List A) → List (List A)) (ok : ℕ → List (List A) → Bool) where
-  -- w holds, by the order, the rows of w₀ after the first k steps, and fine is the verdict on those
-  abbrev pub After : List ℕ → List A → ℕ → List ℕ → List A → Bool → Type 0
-  After order₀ w₀ k order w fine = PlacedBecome m s (turns 0 k step) (λ M. every k (λ i. ok i (turns 0 i step M))) order₀ w₀ order w fine
-
-  pub record Pass (order₀ : List ℕ) (w₀ : List A) (k : ℕ) (order : List ℕ) (w : List A) (fine : Bool) : Type 0 where
-    pub rows : After order₀ w₀ k order w fine
+module _ {A : Type 0} (m : ℕ) (step : ℕ → List (List A) → List (List A)) (ok : ℕ → List (List A) → Bool) where
+  -- M is what the first k steps make of the rows N, and fine is the verdict on those
+  pub record Pass (N : List (List A)) (k : ℕ) (M : List (List A)) (fine : Bool) : Type 0 where
+    pub rows : M ≡ turns 0 k step N
+    pub verdict : fine ≡ every k (λ i. ok i (turns 0 i step N))
     pub few : k ≤ m
-    pub long : length w ≡ length w₀
-    pub stays : Order m order
 
-module _ {A : Type 0} {m s : ℕ} {step : ℕ → List (List A) → List (List A)} {ok : ℕ → List (List A) → Bool} {order₀ : List ℕ} {w₀ : List A} where
-  pub begun : Order m order₀ → Pass m s step ok order₀ w₀ 0 order₀ w₀ true
+module _ {A : Type 0} {m : ℕ} {step : ℕ → List (List A) → List (List A)} {ok : ℕ → List (List A) → Bool} {N : List (List A)} where
+  pub begun : Pass m step ok N 0 N true
   unfolding turns
-  begun o = record { rows = λ M rest e sh. (e, every-none (λ i. ok i (turns 0 i step M))); few = zero-le; long = refl; stays = o }
+  begun = record { rows = refl; verdict = every-none (λ i. ok i (turns 0 i step N)); few = zero-le }
 
-  module _ {k : ℕ} {order : List ℕ} {w : List A} {fine : Bool} (a : Pass m s step ok order₀ w₀ k order w fine) where
-    -- step k, which keeps the rows' shape, makes v of w, and next of the order
-    pub further : ((i : ℕ) (N : List (List A)) → i < m → Shaped m s N → Shaped m s (step i N)) → k < m → {v : List A} {next : List ℕ} {test both : Bool}
-        → Order m next → PlacedBecome m s (step k) (ok k) order w next v test → length v ≡ length w → both ≡ (fine && test)
-        → Pass m s step ok order₀ w₀ (k + 1) next v both
-    further keep h o does l f =
+  module _ {k : ℕ} {M : List (List A)} {fine : Bool} (a : Pass m step ok N k M fine) where
+    -- step k makes L of them
+    pub further : k < m → {L : List (List A)} {test both : Bool} → Becomes (step k) (ok k) M L test → both ≡ (fine && test) → Pass m step ok N (k + 1) L both
+    further h does f =
         record {
-          rows = λ M rest e sh.
-              let old = a.rows M rest e sh in
-              let new = does (turns 0 k step M) rest old.0 (turns_keep step (Shaped m s) m k M keep a.few sh) in
-              (rw (turns_next step k M) new.0, every_next (λ i. ok i (turns 0 i step M)) k old.1 new.1 f);
+          rows = rw (turns_next step k N, ← a.rows) does.0;
+          verdict = every_next (λ i. ok i (turns 0 i step N)) k a.verdict (rw (← a.rows) does.1) f;
           few = omega arith;
-          long = l ∙ a.long;
-          stays = o;
         }
 
-    pub over : m ≤ k → After m s step ok order₀ w₀ m order w fine
-    over h = let e : k ≡ m = omega (arith, a.few) in rw e at a.rows
+    pub over : m ≤ k → Becomes (turns 0 m step) (λ N. every m (λ i. ok i (turns 0 i step N))) N M fine
+    over h = let e : k ≡ m = omega (arith, a.few) in rw (← e) (a.rows, a.verdict)

@@ -11,7 +11,7 @@ use lib.Dec.{leb, ltb}
 use lib.Ieee.{Float}
 use Rattle.meaning.specs.Scalar.{Ops}
 use Rattle.meaning.specs.Number.{smaller, at_least}
-use Rattle.meaning.specs.Loops.{turns}
+use Rattle.meaning.specs.Loops.{turns, run}
 use Rattle.meaning.specs.Table.{at2}
 use Rattle.meaning.proofs.Tests.{no, refuted, by_two}
 use Rattle.meaning.proofs.Every.{all, each}
@@ -128,6 +128,13 @@ module _ {A : Type 0} (o : Ops A) (m col : ℕ) (M : List (List A)) where
       where
         apart : (i : ℕ) → i < best → i ≡ best → ⊥
         apart i l e = omega arith
+
+    -- the row that a loop leaves
+    pub found_is : {b : ℕ} → b ≡ run (col + 1) m (better o M col) col → b ≡ pivot o m col M
+    unfolding best_among
+    found_is q =
+        let e : m - (col + 1) ≡ m - 1 - col = omega arith in
+        q ∙ ap (λ (n : ℕ). turns (col + 1) n (better o M col) col) e ∙ best_is
 
     pub pivot_is : Pivot o m col M (pivot o m col M)
     pivot_is = subst (Pivot o m col M) best_is best_pivot

@@ -1,6 +1,6 @@
 -- Rows that lie by an order: what stands where, what a row or two numbers that are replaced make of them, and two rows exchanged, for which nothing
 -- moves. Over any scalar, for both copies of the solve. Assumes nothing.
-use mathlib.Core.Path.{◌≡◌, refl, sym, ap, ◌∙◌, subst}
+use mathlib.Core.Path.{◌≡◌, sym, ap, ◌∙◌}
 use mathlib.Core.List.{List, []}
 use Prim.Native.Nat.{ℕ, ◌+◌, ◌*◌, ◌≤◌, ◌<◌}
 use native.Mathlib.Omega.{arith}
@@ -8,17 +8,16 @@ use borrow.Author.Tests.{eqb-true, eqb-false}
 use lib.Dec.{eqb}
 use lib.ListN.{length, get_or, set, length-set}
 use lib.Seq.{ext_get_or, get_or-set_same, get_or-set_other}
-use Rattle.meaning.specs.Scalar.{Ops, one64}
+use Rattle.meaning.specs.Scalar.{Ops}
 use Rattle.meaning.specs.Search.{listed}
 use Rattle.meaning.proofs.Tests.{by_two}
 use Rattle.meaning.proofs.Filling.{length-listed, nth_listed}
 use Rattle.row_order.specs.Order.{place_of, row_at, exchanged_in, Order}
-use Rattle.row_order.proofs.Orders.{row_of-place, place_of-row, in_order_lem, other, one_of, other_first, other_second, other_none, exchanged-place, exchanged-row, exchanged_order}
+use Rattle.row_order.proofs.Orders.{row_of-place, place_of-row, in_order_lem, other, one_of, other_first, other_second, other_none, exchanged-row}
 use Rattle.solve.specs.Rows.{flat, Shaped}
 use Rattle.solve.specs.Placed.{laid}
 use Rattle.solve.specs.Elimination.{exchanged, pivoted}
 use Rattle.solve.specs.Pivot.{pivot}
-use Rattle.solve.specs.Substitution.{remains, answer}
 use Rattle.solve.proofs.Flat.{read_cell, swapped-first, swapped_second, swapped_other}
 use Rattle.solve.proofs.Answers.{write_two}
 
@@ -32,7 +31,7 @@ module _ {A : Type 0} (m : ℕ) (order : List ℕ) (M : List (List A)) where
   laid-at k h = nth_listed m k (λ k. get_or M (row_at m order k) []) [] h
 
   -- what lies at every place is known, and so are the rows
-  laid_by : (N : List (List A)) → length N ≡ m → ((k : ℕ) → k < m → get_or N k [] ≡ get_or M (row_at m order k) []) → N ≡ laid m order M
+  pub laid_by : (N : List (List A)) → length N ≡ m → ((k : ℕ) → k < m → get_or N k [] ≡ get_or M (row_at m order k) []) → N ≡ laid m order M
   laid_by N l e = ext_get_or [] N (laid m order M) (l ∙ sym laid-long) (λ k h. let g : k < m = omega arith in e k g ∙ sym (laid-at k g))
 
 -- ---- one order
@@ -79,12 +78,6 @@ module _ {A : Type 0} {m : ℕ} {order : List ℕ} (o : Order m order) (M : List
         write_two rest w (place_of order r) e (laid_shaped sh) (o.within r h) i j x y a b
         ∙ ap (λ (N : List (List A)). flat N rest) (laid_step r (λ t. set (set t i x) j y) h sh.count)
 
-    -- an answer as the code works it out
-    pub answer-placed : (p : Ops A) (c d n : ℕ) (x : A) → d < s → x ≡ remains p M r c d n
-        → p.times x (p.over (p.cst one64) (get_or w (place_of order r * s + d) p.off)) ≡ answer p M r c d n
-    unfolding answer
-    answer-placed p c d n x l q = rw (q, read-placed d l p.off)
-
 -- ---- every row at its own place
 pub laid_start : {A : Type 0} (m : ℕ) (M : List (List A)) → m ≤ 66 → length M ≡ m → M ≡ laid m (listed 0 66 (λ r. r)) M
 laid_start m M h l =
@@ -114,14 +107,7 @@ module _ {A : Type 0} {m : ℕ} {order : List ℕ} (o : Order m order) (M : List
 
 -- ---- the row of column col's pivot, the row best, put first in the order
 module _ {m : ℕ} {order next : List ℕ} (o : Order m order) (col best : ℕ) (h : col < m) (g : best < m) (e : next ≡ exchanged_in order col best) where
-  pub next_order : Order m next
-  next_order = subst (Order m) (sym e) (exchanged_order o col best h g)
-
-  -- it lies where it lay
-  pub next_place : place_of order best ≡ place_of next col
-  next_place = sym (ap (λ (l : List ℕ). place_of l col) e ∙ exchanged-place o col best h g col ∙ ap (place_of order) (other_first col best col refl))
-
-  -- and the buffer holds the exchanged rows
+  -- the buffer holds the exchanged rows
   pub next_rows : {A : Type 0} (p : Ops A) (M : List (List A)) (rest w : List A) → length M ≡ m → best ≡ pivot p m col M
       → w ≡ flat (laid m order M) rest → w ≡ flat (laid m next (pivoted p m col M)) rest
   unfolding pivoted

@@ -1,6 +1,6 @@
 -- What a turn of each of the elimination's loops makes of the rows, over any scalar. Assumes nothing.
 use mathlib.Core.Path.{◌≡◌, refl, sym, ap, ◌∙◌}
-use mathlib.Core.Bool.{true}
+use mathlib.Core.Bool.{Bool, true}
 use mathlib.Core.List.{List, []}
 use Prim.Native.Nat.{ℕ, ◌+◌, ◌≤◌, ◌<◌}
 use native.Mathlib.Omega.{arith}
@@ -12,9 +12,10 @@ use Rattle.meaning.specs.Scalar.{Ops, zero64}
 use Rattle.meaning.specs.Table.{at1}
 use Rattle.meaning.specs.Search.{every}
 use Rattle.solve.specs.Rows.{Shaped}
+use Rattle.solve.specs.Left.{Becomes}
 use Rattle.solve.specs.Pivot.{pivot}
-use Rattle.solve.specs.Elimination.{less_by, less_at, subtracted, reduced, row_after, reduced_rows, pivoted, column_done, eliminated}
-use Rattle.solve.specs.Verdicts.{fine_at, reduced_ok, row_fine}
+use Rattle.solve.specs.Elimination.{less_by, less_at, subtracted, reduced, row_after, reduced_rows, exchanged, pivoted, column_done, eliminated}
+use Rattle.solve.specs.Verdicts.{fine_at, reduced_ok, row_fine, reduced_rows_ok, column_ok}
 use Rattle.meaning.proofs.Filling.{length-listed, nth_listed}
 use Rattle.meaning.proofs.Every.{all}
 use Rattle.solve.proofs.Lists.{blend, blend_next, blend_start, blend_get, length_cond, turns_next, turns_keep}
@@ -135,3 +136,15 @@ module _ {A : Type 0} (o : Ops A) (m : ℕ) where
   pub eliminated_shaped : (s n : ℕ) (M : List (List A)) → n ≤ m → Shaped m s M → Shaped m s (eliminated o m n M)
   unfolding eliminated
   eliminated_shaped s n M h sh = turns_keep (column_done o m) (Shaped m s) m n M (λ k N l. column_shaped s k N l) h sh
+
+-- ---- a column's step, by the row that a search found
+pub column_comes : {A : Type 0} (o : Ops A) (m col : ℕ) (M : List (List A)) {best : ℕ} {N L : List (List A)} {q : Bool}
+    → best ≡ pivot o m col M → N ≡ exchanged M col best
+    → Becomes (λ K. reduced_rows o m m col (get_or K col []) K) (λ K. reduced_rows_ok o m m col (get_or K col []) K) N L q
+    → Becomes (column_done o m col) (column_ok o m col) M L q
+unfolding pivoted column_done column_ok
+column_comes o m col M is e does =
+    let moved = e ∙ ap (exchanged M col) is in (
+      does.0 ∙ ap (λ (K : List (List _)). reduced_rows o m m col (get_or K col []) K) moved,
+      does.1 ∙ ap (λ (K : List (List _)). reduced_rows_ok o m m col (get_or K col []) K) moved,
+    )

@@ -19,6 +19,7 @@ use Rattle.meaning.proofs.Tests.{by_two}
 use Rattle.meaning.proofs.Filling.{length-listed, nth_listed}
 use Rattle.meaning.proofs.Every.{every_same, every_front, every-past, every_back, every_both}
 use Rattle.solve.specs.Rows.{Shaped}
+use Rattle.solve.specs.Left.{Becomes}
 use Rattle.solve.specs.Elimination.{subtracted, reduced, pivoted, eliminated}
 use Rattle.solve.specs.Substitution.{answer, answered, backed, solved}
 use Rattle.solve.specs.Stored.{all_fine, stored_by_row, stored_by_column, stored_by_solve, solved_ok}
@@ -173,3 +174,11 @@ solved_along o m M sh =
     fine_append o (steps ++ xs) ys ∙ ap (λ (b : Bool). b && all_fine o ys) (fine_append o steps xs)
     ∙ and_assoc (all_fine o steps) (all_fine o xs) (all_fine o ys)
     ∙ (λ j. columns_stored o m M j && answers_stored o m E (eliminated_shaped o m (m + 2) m M (le_refl m) sh) j)
+
+-- both halves of it, one after the other
+pub solve_comes : {A : Type 0} (o : Ops A) (m : ℕ) (M : List (List A)) → Shaped m (m + 2) M → {N L : List (List A)} {p q r : Bool}
+    → Becomes (eliminated o m m) (eliminated_ok o m m) M N p → Becomes (backed o m m) (backed_ok o m m) N L q → r ≡ (p && q)
+    → Becomes (solved o m) (solved_ok o m) M L r
+unfolding solved
+solve_comes o m M sh first second both =
+    (second.0 ∙ ap (backed o m m) first.0, both ∙ (λ i. first.1 i && (second.1 ∙ ap (backed_ok o m m) first.0) i) ∙ sym (solved_along o m M sh))

@@ -10,4 +10,5 @@ pub mod Stored
 pub mod Verdicts
 pub mod Outcome
 pub mod View
+pub mod Store
 pub mod Buffer

@@ -1,72 +1,23 @@
-// Rows in the work buffer: m rows of s numbers at the front of a slice, each n matrix numbers and then two right sides. They stay where they lie, and
-// an order tells the place of each. A contract speaks of any rows M that the slice holds, as they lie or by the order, and of the rest after them.
-ghost use Rattle.std.specs.Prelude.{◌≡◌, [], ◌++◌, ◌+◌, ◌*◌, ◌<◌, ◌≤◌, length, take, drop, get_or, replicate};
+// Rows of doubles in the work buffer, one after the other at its front. They stay where they lie, and an order tells the place of each.
+ghost use Rattle.std.specs.Prelude.{◌≡◌, [], ◌++◌, ◌+◌, ◌-◌, ◌*◌, ◌<◌, ◌≤◌, length, take, drop, get_or, replicate};
+ghost use Rattle.std.proofs.Common.{refl, ◌∙◌};
 ghost use Rattle.meaning.specs.Scalar.{plain, zero64};
-ghost use Rattle.row_order.specs.Order.{Order};
-ghost use Rattle.solve.specs.Rows.{OfRows};
-ghost use Rattle.solve.specs.Left.{Becomes, RowBecomes};
-ghost use Rattle.solve.specs.Placed.{OfPlaced, PlacedBecome};
-ghost use Rattle.solve.specs.Best.{best_among};
+ghost use Rattle.meaning.specs.Table.{at2};
+ghost use Rattle.row_order.specs.Order.{place_of};
+ghost use Rattle.solve.specs.Left.{Becomes};
+ghost use Rattle.solve.specs.Placed.{RowsAlone};
 ghost use Rattle.solve.specs.Elimination.{less_by, subtracted, reduced};
-ghost use Rattle.solve.specs.Substitution.{remains, answered};
-ghost use Rattle.solve.specs.Verdicts.{subtracted_ok, reduced_ok, answered_ok};
+ghost use Rattle.solve.specs.Substitution.{remains};
+ghost use Rattle.solve.specs.Verdicts.{subtracted_ok, reduced_ok};
 ghost use Rattle.solve.specs.Outcome.{column, zeros};
 
-// A row, copied out.
-fn load_row(t: &[f64]) -> [f64; 68]
-    requires { length t.now ≤ 68 }
-    ensures { (length result ≡ 68) × (take (length t.now) result ≡ t.now) }
-{
-    let mut out = [0.0; 68];
-    let end = t.len();
-    for k in 0..end {
-        out[k] = t[k];
-    }
-    out
-}
+use crate::rows::Rows;
+use row_order::RowOrder;
 
-// The row at a place, copied out.
-pub(crate) fn load_at(w: &[f64], m: usize, s: usize, at: usize) -> [f64; 68]
-    requires { (at < m) × (s ≤ 68) × (m * s ≤ length w.now) }
-    ensures { (length result ≡ 68) × OfRows m s w.now (λ M rest. take s result ≡ get_or M at []) }
-{
-    let a = at * s;
-    let e = a + s;
-    load_row(&w[a..e])
-}
-
-// Of row lo and the n rows after it the one whose number k is the greatest in size, the last of equals. The loop keeps no more
-// than the row and its number: of three numbers a compiler makes one chain of choices, which takes longer than a branch that is seldom taken.
-pub(crate) fn find_pivot(
-    w: &[f64],
-    order: &[usize; 66],
-    m: usize,
-    s: usize,
-    k: usize,
-    lo: usize,
-    n: usize,
-) -> usize
-    requires { (lo + n < m) × (k < s) × (m * s ≤ length w.now) × Order m order.now }
-    ensures within { result ≤ lo + n }
-    ensures greatest { OfPlaced m s order.now w.now (λ M rest. result ≡ best_among plain M k lo n) }
-{
-    let mut best = lo;
-    let place = order[lo];
-    let mut top = w[place * s + k];
-    let first = lo + 1;
-    let end = first + n;
-    for r in first..end {
-        let at = order[r];
-        let v = w[at * s + k];
-        if number::at_least(v, top) {
-            best = r;
-            top = v;
-        }
-    }
-    best
-}
+// ---- one row
 
 // x less f times y; the multiplier stands first in the matrix and second in the right sides.
+// Stays: a closure for each would be chosen by the same test at each number, and no line would go.
 fn less_by(matrix: bool, f: f64, x: f64, y: f64) -> f64
     ensures { result ≡ less_by plain matrix f x y }
 {
@@ -84,6 +35,7 @@ fn subtract_row(t: &mut [f64], p: &[f64], n: usize, col: usize, f: f64) -> bool
 {
     let mut spoilt = false;
     let end = p.len();
+    // Stays: the index is asked as well, so that a zip of both rows needs `enumerate` and `skip`, and is no plainer.
     for k in col..end {
         let v = less_by(k < n, f, t[k], p[k]);
         t[k] = v;
@@ -94,7 +46,7 @@ fn subtract_row(t: &mut [f64], p: &[f64], n: usize, col: usize, f: f64) -> bool
 
 // A row whose number in column col is eliminated by the pivot row p; skipped where that number compares equal to 0.
 // Answers whether the multiplier and every number stored are finite.
-pub(crate) fn reduce_row(t: &mut [f64], p: &[f64], n: usize, col: usize) -> bool
+fn reduce_row(t: &mut [f64], p: &[f64], n: usize, col: usize) -> bool
     requires { (col < length t.old) × (length p.now ≡ length t.old) }
     ensures { Becomes (reduced plain n col p.now) (reduced_ok plain n col p.now) t.old t.new result }
 {
@@ -107,91 +59,143 @@ pub(crate) fn reduce_row(t: &mut [f64], p: &[f64], n: usize, col: usize) -> bool
     number::both(number::is_finite(f), fine)
 }
 
-// The row at a place, reduced by the pivot row p.
-pub(crate) fn reduce_at(
-    w: &mut [f64],
-    p: &[f64],
-    m: usize,
-    n: usize,
-    s: usize,
-    col: usize,
-    at: usize,
-) -> bool
-    requires { (at < m) × (col < s) × (m * s ≤ length w.old) × (length p.now ≡ s) }
-    ensures { RowBecomes m s at (reduced plain n col p.now) (reduced_ok plain n col p.now) w.old w.new result }
-{
-    let a = at * s;
-    let e = a + s;
-    reduce_row(&mut w[a..e], p, n, col)
+// ---- the rows
+
+#[derive(Drop)]
+pub(crate) struct Plain<'a> {
+    pub(crate) w: &'a mut [f64],
+    pub(crate) order: RowOrder,
+    ghost room: { order.rows * (order.rows + 2) ≤ length w.now },
 }
 
-// Right side c of row r less the terms of the k rows below it, which hold their answers. Row r's own number stands at d, and the factors after it.
-fn remaining(
-    w: &[f64],
-    order: &[usize; 66],
-    m: usize,
-    s: usize,
-    r: usize,
-    c: usize,
-    d: usize,
-    k: usize,
-) -> f64
-    requires { (r + k < m) × (c < s) × (d + k < s) × (m * s ≤ length w.now) × Order m order.now }
-    ensures { OfPlaced m s order.now w.now (λ M rest. result ≡ remains plain M r c d k) }
-{
-    let base = order[r] * s;
-    let mut acc = w[base + c];
-    for i in 0..k {
-        let below = r + 1 + i;
-        let at = order[below];
-        acc = acc - w[at * s + c] * w[base + (d + 1 + i)];
+impl Plain<'_> {
+    ghost use Rattle.solve.specs.Store.{rows_held};
+
+    // Where row r begins.
+    fn start(&self, r: usize) -> usize
+        requires { r < self.now.order.rows }
+        ensures value { result ≡ place_of self.now.order.places r * (self.now.order.rows + 2) }
+        ensures within { result + (self.now.order.rows + 2) ≤ length self.now.w.now }
+    {
+        self.order.places[r] * (self.order.rows + 2)
     }
-    acc
-}
 
-// Row r answered, in rows of n matrix numbers. Answers whether both answers are finite.
-pub(crate) fn answer_row(
-    w: &mut [f64],
-    order: &[usize; 66],
-    m: usize,
-    n: usize,
-    s: usize,
-    r: usize,
-    d: usize,
-    k: usize,
-) -> bool
-    requires { (r + k < m) × (d + k < s) × (n + 2 ≤ s) × (m * s ≤ length w.old) × Order m order.now }
-    ensures { PlacedBecome m s (λ M. answered plain n M r d k) (λ M. answered_ok plain n M r d k)
-        order.now w.old order.now w.new result }
-{
-    let base = order[r] * s;
-    let inv = 1.0 / w[base + d];
-    let x = remaining(w, order, m, s, r, n, d, k) * inv;
-    let y = remaining(w, order, m, s, r, n + 1, d, k) * inv;
-    w[base + n] = x;
-    w[base + (n + 1)] = y;
-    number::both(number::is_finite(x), number::is_finite(y))
-}
-
-// Column c of the rows, +0.0 past them.
-pub(crate) fn column_of(w: &[f64], order: &[usize; 66], m: usize, s: usize, c: usize) -> [f64; 66]
-    requires { (c < s) × (m * s ≤ length w.now) × Order m order.now }
-    ensures { OfPlaced m s order.now w.now (λ M rest. result ≡ column plain m M c (zeros plain)) }
-{
-    let mut out = [0.0; 66];
-    for r in 0..m {
-        let at = order[r];
-        out[r] = w[at * s + c];
+    // Number k of row r.
+    fn number(&self, r: usize, k: usize) -> f64
+        requires { (r < self.now.order.rows) × (k < self.now.order.rows + 2) }
+        ensures { result ≡ at2 plain (rows_held self.now) r k }
+    {
+        self.w[self.start(r) + k]
     }
-    out
+
+    // Right side c of row r less the terms of the rows below it, which hold their answers.
+    fn remaining(&self, r: usize, c: usize) -> f64
+        requires { (r < self.now.order.rows) × (c < self.now.order.rows + 2) }
+        ensures { result ≡ remains plain (rows_held self.now) r c r (self.now.order.rows - 1 - r) }
+    {
+        let mut acc = self.number(r, c);
+        for below in r + 1..self.order.rows {
+            acc = acc - self.number(below, c) * self.number(r, below);
+        }
+        acc
+    }
+
+    // Column c of the rows, +0.0 past them.
+    pub(crate) fn column(&self, c: usize) -> [f64; 66]
+        requires { c < self.now.order.rows + 2 }
+        ensures { result ≡ column plain self.now.order.rows (rows_held self.now) c (zeros plain) }
+    {
+        let mut out = [0.0; 66];
+        let front = &mut out[..self.order.rows];
+        for (r, x) in front.iter_mut().enumerate() {
+            *x = self.number(r, c);
+        }
+        out
+    }
 }
 
-// The first n numbers cleared.
-pub(crate) fn clear(w: &mut [f64], n: usize)
-    requires { n ≤ length w.old }
-    ensures { w.new ≡ replicate n zero64 ++ drop n w.old }
-{
-    for i in 0..n {
-        w[i] = 0.0;
+impl Rows for Plain<'_> {
+    ghost use Rattle.solve.specs.Store.{rows_held};
+
+    type Number = f64;
+
+    type Pivot = [f64; 68];
+
+    ghost ops = { plain };
+
+    ghost rows = { rows_held };
+
+    ghost same = { λ a b. (length (rows_held b) ≡ length (rows_held a))
+        × (b.w.ghost_name ≡ a.w.ghost_name) × RowsAlone a.order.rows a.w.now b.order.rows b.w.now };
+
+    ghost kept = { λ a col p. take (a.order.rows + 2) p ≡ get_or (rows_held a) col [] };
+
+    fn count(&self) -> usize {
+        self.order.rows
     }
+
+    // The last of equals. The loop keeps no more than the row and its number: of three numbers a compiler makes one chain of choices, which takes longer
+    // than a branch that is seldom taken.
+    fn find_pivot(&self, col: usize) -> usize {
+        let m = self.order.rows;
+        if col >= m {
+            return col;
+        }
+        let mut best = col;
+        let mut top = self.number(col, col);
+        for r in col + 1..m {
+            let v = self.number(r, col);
+            if number::at_least(v, top) {
+                best = r;
+                top = v;
+            }
+        }
+        best
+    }
+
+    fn exchange(&mut self, i: usize, j: usize) {
+        self.order.exchange(i, j);
+    }
+
+    // The row, copied out: a loop that reads one row and writes another is to know that they do not overlap.
+    fn pivot_row(&self, col: usize) -> [f64; 68] {
+        let mut out = [0.0; 68];
+        let m = self.order.rows;
+        if col < m {
+            let a = self.start(col);
+            out[..m + 2].copy_from_slice(&self.w[a..a + (m + 2)]);
+        }
+        out
+    }
+
+    fn reduce(&mut self, pivot: &[f64; 68], col: usize, r: usize) -> bool {
+        let m = self.order.rows;
+        if col >= m || r >= m {
+            return true;
+        }
+        let a = self.start(r);
+        let w = &mut *self.w;
+        reduce_row(&mut w[a..a + (m + 2)], &pivot[..m + 2], m, col)
+    }
+
+    fn answer(&mut self, i: usize) -> bool {
+        let m = self.order.rows;
+        if i >= m {
+            return true;
+        }
+        let r = m - 1 - i;
+        let inv = 1.0 / self.number(r, r);
+        let x = self.remaining(r, m) * inv;
+        let y = self.remaining(r, m + 1) * inv;
+        let a = self.start(r);
+        self.w[a + m] = x;
+        self.w[a + (m + 1)] = y;
+        number::both(number::is_finite(x), number::is_finite(y))
+    }
+
+    ghost again = { λ a. (refl, refl, (refl, refl)) };
+
+    ghost along = { λ a b c p q. (q.0 ∙ p.0, q.1 ∙ p.1, (q.2.0 ∙ p.2.0, q.2.1 ∙ p.2.1)) };
+
+    ghost as_many = { λ a b p. p.0 };
 }

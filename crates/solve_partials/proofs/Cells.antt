@@ -78,10 +78,6 @@ module _ (c : ℕ) (w : List Float) (ns : List ℕ) where
           room = rw (counts-long c w ns k there d, with_long c w ns k there d) r.room;
         }
 
--- slices of the same lengths
-pub room-kept : {c : ℕ} {w w' : List Float} {ns ns' : List ℕ} → Room c w ns → length w' ≡ length w → length ns' ≡ length ns → Room c w' ns'
-room-kept r l k = record { narrow = r.narrow; few = omega (arith, r.few); room = rw (k, l) r.room }
-
 -- ---- values that lie in a cell as they are
 module _ (c : ℕ) (h : c ≤ 27) where
   -- the value d 0 with n partials

@@ -19,15 +19,14 @@ use Rattle.partials.specs.declared.Dv.{Dv}
 use Rattle.partials.specs.Dual.{cst_dv, dual}
 use Rattle.cells.specs.Cell.{cell_at}
 use Rattle.cells.proofs.Values.{value_same}
-use Rattle.solve.specs.Rows.{flat, Shaped}
 use Rattle.solve.specs.Substitution.{solved}
 use Rattle.solve.specs.Stored.{solved_ok}
 use Rattle.solve.specs.Outcome.{column, zeros, no_solution, solution_of}
 use Rattle.solve.proofs.Lists.{row_le}
-use Rattle.solve.proofs.Flat.{flat-of_rows, rows_shaped_of}
 use Rattle.solve.proofs.Answers.{column-length, column-at}
 use Rattle.solve_partials.specs.Held.{held, Room}
-use Rattle.solve_partials.specs.Outcome.{fits, room_of, rows_in, four, four_of}
+use Rattle.solve_partials.specs.Outcome.{fits, room_of, four, four_of}
+use Rattle.solve_partials.specs.View.{no_four}
 
 module _ {A : Type 0} where
   -- what is read within a list does not hang on what is read past it
@@ -59,22 +58,22 @@ module _ (m : ℕ) (M : List (List Dv)) (b : ℕ) (h : m ≤ 66) where
       ∙ all_same 66 (m + (r - m)) (cst_dv zero64))
 
 -- ---- the four answers, by the verdict
-pub no_four : (at : ℕ) (z : Dv) → z ≡ cst_dv zero64 → record { xs = z ∷ z ∷ z ∷ z ∷ []; ys = z ∷ z ∷ z ∷ z ∷ []; fine = false } ≡ four_of at (no_solution dual)
+pub none_is : (at : ℕ) → no_four ≡ four_of at (no_solution dual)
 unfolding four_of listed
-no_four at z e =
-    let s : (i : ℕ) → z ≡ get_or (zeros dual) (at + i) (cst_dv zero64) = λ i. e ∙ sym (all_same 66 (at + i) (cst_dv zero64)) in
+none_is at =
+    let s : (i : ℕ) → cst_dv zero64 ≡ get_or (zeros dual) (at + i) (cst_dv zero64) = λ i. sym (all_same 66 (at + i) (cst_dv zero64)) in
     λ t. record { xs = s 0 t ∷ s 1 t ∷ s 2 t ∷ s 3 t ∷ []; ys = s 0 t ∷ s 1 t ∷ s 2 t ∷ s 3 t ∷ []; fine = false }
 
 module _ (m at : ℕ) (M : List (List Dv)) where
   pub fine-four : {fine : Bool} {xs ys : List Dv} → fine ≡ solved_ok dual m M → fine ≡ true
       → xs ≡ four at (column dual m (solved dual m M) m (zeros dual)) → ys ≡ four at (column dual m (solved dual m M) (m + 1) (zeros dual))
-      → record { xs = xs; ys = ys; fine = fine } ≡ four_of at (solution_of dual m M)
+      → record { xs = xs; ys = ys; fine = true } ≡ four_of at (solution_of dual m M)
   unfolding four_of solution_of
-  fine-four e t x y = rw (sym e ∙ t) (λ i. record { xs = x i; ys = y i; fine = t i })
+  fine-four e t x y = rw (sym e ∙ t) (λ i. record { xs = x i; ys = y i; fine = true })
 
-  pub none-four : {fine : Bool} → fine ≡ solved_ok dual m M → fine ≡ false → four_of at (no_solution dual) ≡ four_of at (solution_of dual m M)
+  pub none-four : {fine : Bool} → fine ≡ solved_ok dual m M → fine ≡ false → no_four ≡ four_of at (solution_of dual m M)
   unfolding solution_of
-  none-four e t = rw (sym e ∙ t)
+  none-four e t = rw (sym e ∙ t) (none_is at)
 
 -- ---- slices that begin with the rows
 pub record Fits (m c doubles bytes : ℕ) : Type 0 where
@@ -121,16 +120,3 @@ module _ (c n : ℕ) (w : List Float) (ns : List ℕ) (h : n ≤ length ns) (g :
   pub front_room : c ≤ 27 → n ≤ 224 → Room c (take (n * (c + 1)) w) (take n ns)
   front_room a b =
       record { narrow = a; few = omega (arith, front_long); room = rw (front_long, length-take-le (n * (c + 1)) w g) (omega arith) }
-
--- the rows that lie there
-module _ (m c : ℕ) (w : List Float) (ns : List ℕ) where
-  abbrev cells : List Dv
-  cells = listed 0 (room_of m) (cell_at c w ns)
-
-  pub front_rows : cells ≡ flat (rows_in m c w ns) (drop (room_of m) cells)
-  unfolding rows_in
-  front_rows = flat-of_rows m (m + 2) cells
-
-  pub front_shaped : Shaped m (m + 2) (rows_in m c w ns)
-  unfolding rows_in
-  front_shaped = rows_shaped_of m (m + 2) cells (omega (arith, length-listed 0 (room_of m) (cell_at c w ns)))

@@ -1,36 +1,31 @@
--- Rows in the slices: the value of a number, and rows as a function reads them. Assumes nothing.
-use mathlib.Core.Path.{◌≡◌, sym, ap, ◌∙◌}
+-- Rows of cells by their order: where a number of them lies. Assumes nothing.
+use mathlib.Core.Path.{◌≡◌, ap, ◌∙◌}
 use mathlib.Core.List.{List}
 use Prim.Native.Nat.{ℕ, ◌+◌, ◌*◌, ◌≤◌, ◌<◌}
 use native.Mathlib.Omega.{arith}
-use lib.ListN.{length, get_or}
-use lib.Ieee.{Float, nan}
+use lib.ListN.{length}
+use lib.Ieee.{Float}
 use Rattle.meaning.specs.Table.{at2}
-use Rattle.partials.specs.declared.Dv.{Dv}
 use Rattle.partials.specs.Dual.{dual}
 use Rattle.row_order.specs.Order.{place_of, Order}
-use Rattle.solve.specs.Rows.{flat, Shaped}
-use Rattle.solve.specs.Placed.{laid}
-use Rattle.solve.proofs.Lists.{row_le}
-use Rattle.solve.proofs.Flat.{read_cell}
-use Rattle.solve.proofs.Placed.{laid-row, laid_shaped}
-use Rattle.solve_partials.specs.Held.{held}
-use Rattle.solve_partials.proofs.Cells.{held-value}
+use Rattle.solve.specs.Rows.{Shaped}
+use Rattle.solve.specs.Placed.{rows_by}
+use Rattle.solve.proofs.By.{by_each, read_by}
+use Rattle.solve_partials.specs.Held.{held, at}
+use Rattle.solve_partials.proofs.Cells.{held-long}
 use Rattle.solve_partials.proofs.Turns.{inside}
 
--- cell k of row r ends within the doubles of the rows
-pub cell_end : (c r k m s : ℕ) → r < m → k < s → (r * s + k) * (c + 1) + (c + 1) ≤ m * s * (c + 1)
-cell_end c r k m s h l = row_le (r * s + k) (m * s) (c + 1) (inside r k m s h l)
+-- the cells of a row end within the slices
+pub row_within : {m : ℕ} {order : List ℕ} → Order m order → (r k n : ℕ) → r < m → k < m + 2 → n ≡ m * (m + 2) → place_of order r * (m + 2) + k < n
+row_within {m = m} {order = order} o r k n h l e = omega (arith, e, inside (place_of order r) k m (m + 2) (o.within r h) l)
 
-pub read-value : (c : ℕ) (w : List Float) (ns : List ℕ) {m s : ℕ} {M : List (List Dv)} (rest : List Dv) → held c w ns ≡ flat M rest → Shaped m s M → length ns ≡ m * s
-    → (r k : ℕ) → r < m → k < s → get_or w ((r * s + k) * (c + 1)) nan ≡ (at2 dual M r k).v
-read-value c w ns {m} {s} rest e sh l r k h g =
-    let low : r * s + k < length ns = omega (arith, inside r k m s h g) in
-    sym (held-value c w ns (r * s + k) low) ∙ ap (λ (d : Dv). d.v) (read_cell rest (held c w ns) r e sh h k g dual.off)
+module _ {m : ℕ} {order : List ℕ} (o : Order m order) (c : ℕ) (w : List Float) (ns : List ℕ) (e : length ns ≡ m * (m + 2)) where
+  pub held_room : m * (m + 2) ≤ length (held c w ns)
+  held_room = omega (arith, held-long c w ns, e)
 
--- the same in rows that lie by an order
-pub placed-value : (c : ℕ) (w : List Float) (ns : List ℕ) {m s : ℕ} {order : List ℕ} → Order m order → (M : List (List Dv)) (rest : List Dv)
-    → held c w ns ≡ flat (laid m order M) rest → Shaped m s M → length ns ≡ m * s
-    → (r k : ℕ) → r < m → k < s → get_or w ((place_of order r * s + k) * (c + 1)) nan ≡ (at2 dual M r k).v
-placed-value c w ns {order = order} o M rest e sh l r k h g =
-    read-value c w ns rest e (laid_shaped o M sh) l (place_of order r) k (o.within r h) g ∙ ap (λ (R : List Dv). (get_or R k dual.off).v) (laid-row o M r h)
+  pub cells_shaped : Shaped m (m + 2) (rows_by m order (held c w ns))
+  cells_shaped = by_each o (held c w ns) held_room
+
+  -- number k of row r
+  pub at_by : (r k i : ℕ) → r < m → k < m + 2 → i ≡ place_of order r * (m + 2) + k → at c w ns i ≡ at2 dual (rows_by m order (held c w ns)) r k
+  at_by r k i h l q = ap (at c w ns) q ∙ read_by o (held c w ns) held_room r h k l dual.off

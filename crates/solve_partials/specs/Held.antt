@@ -7,8 +7,6 @@ use Rattle.meaning.specs.Search.{listed}
 use Rattle.partials.specs.declared.Dv.{Dv}
 use Rattle.partials.specs.Dual.{dual, fine_dv}
 use Rattle.cells.specs.Cell.{value_of, cell_at}
-use Rattle.solve.specs.Left.{RowsBecome}
-use Rattle.solve.specs.Placed.{PlacedBecome}
 
 -- the values in the cells of the slices
 unfoldable pub held : ℕ → List Float → List ℕ → List Dv
@@ -37,10 +35,6 @@ abbrev pub less_product : List Float → List Float → List Float → ℕ → F
 less_product t a b j =
     sub binary64 (numbered t j) (add binary64 (mul binary64 (numbered a j) (numbered b 0)) (mul binary64 (numbered a 0) (numbered b j)))
 
--- the doubles t are the value v with n partials, and q is the verdict on it
-abbrev pub Stores : List Float → ℕ → Bool → Dv → Type 0
-Stores t n q v = (valued t n ≡ v) × (q ≡ fine_dv v)
-
 -- value k of the slices
 abbrev pub at : ℕ → List Float → List ℕ → ℕ → Dv
 at c w ns k = get_or (held c w ns) k dual.off
@@ -56,12 +50,3 @@ Copied q n v = (length q ≡ 28) × Clean q n × (valued q n ≡ v)
 -- the slices w' and ns' hold v in cell k, and else what w and ns do; q is the verdict on v
 abbrev pub CellBecomes : ℕ → ℕ → Dv → List Float → List ℕ → List Float → List ℕ → Bool → Type 0
 CellBecomes c k v w ns w' ns' q = (held c w' ns' ≡ set (held c w ns) k v) × (q ≡ fine_dv v)
-
--- what a step makes of the m rows of s values that the slices hold, and its verdict
-abbrev pub CellsBecome : ℕ → ℕ → ℕ → (List (List Dv) → List (List Dv)) → (List (List Dv) → Bool) → List Float → List ℕ → List Float → List ℕ → Bool → Type 0
-CellsBecome c m s step ok w ns w' ns' q = RowsBecome m s step ok (held c w ns) (held c w' ns') q
-
--- the same of rows that lie by an order
-abbrev pub PlacedCellsBecome : ℕ → ℕ → ℕ → (List (List Dv) → List (List Dv)) → (List (List Dv) → Bool)
-    → List ℕ → List Float → List ℕ → List ℕ → List Float → List ℕ → Bool → Type 0
-PlacedCellsBecome c m s step ok order w ns order' w' ns' q = PlacedBecome m s step ok order (held c w ns) order' (held c w' ns') q

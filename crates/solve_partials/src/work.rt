@@ -1,134 +1,144 @@
-// Cells in the slices, by their index: what lies in one, and what is made of one. A contract speaks of the list of values that the slices hold.
+// Rows of cells in the two slices, one after the other: m rows of m matrix numbers and two right sides. They stay where they lie, and an order tells the
+// place of each. Here cells stand by their index, and a contract speaks of the list of values that the slices hold.
 ghost use Rattle.std.specs.Prelude.{◌≡◌, ◌+◌, ◌*◌, ◌<◌, ◌≤◌, length, get_or, set};
-ghost use Rattle.std.specs.Float.{nan};
-ghost use Rattle.partials.specs.Dual.{dual, cst_dv, sub_dv, mul_dv, div_dv};
+ghost use Rattle.partials.specs.Dual.{cst_dv, sub_dv, mul_dv, div_dv};
 ghost use Rattle.meaning.specs.Scalar.{one64};
 ghost use Rattle.solve.specs.Elimination.{less_by};
+ghost use Rattle.partials.specs.Dual.{dual};
 ghost use Rattle.cells.specs.Normal.{Normal};
-ghost use Rattle.solve_partials.specs.Held.{held, Room, valued, Clean, count_at, at, Copied, CellBecomes};
+ghost use Rattle.solve_partials.specs.Held.{held, Room, valued, Clean, count_at, Copied, CellBecomes};
 
 use crate::cell;
 use partials::Dv;
+use row_order::RowOrder;
 
-// The value in cell k and its partials, copied out.
-pub(crate) fn load(w: &[f64], ns: &[u8], c: usize, k: usize) -> [f64; 28]
-    requires { Room c w.now ns.now × (k < length ns.now) }
-    ensures { Copied result (count_at c ns.now k) (at c w.now ns.now k) }
-{
-    let n = cells::count(ns, c, k);
-    let a = k * (c + 1);
-    let e = a + (c + 1);
-    cell::copy(&w[a..e], n)
+#[derive(Drop)]
+pub(crate) struct Cells<'a> {
+    pub(crate) w: &'a mut [f64],
+    pub(crate) ns: &'a mut [u8],
+    pub(crate) c: usize,
+    pub(crate) order: RowOrder,
+    ghost room: { Room c w.now ns.now },
+    ghost whole: { length ns.now ≡ order.rows * (order.rows + 2) },
 }
 
-// Cell k less the product of a and b. Answers whether what is stored is finite.
-fn subtract_at(
-    w: &mut [f64],
-    ns: &mut [u8],
-    c: usize,
-    k: usize,
-    a: &[f64; 28],
-    na: usize,
-    b: &[f64; 28],
-    nb: usize,
-) -> bool
-    requires { Room c w.old ns.old × (k < length ns.old) × (na ≤ c) × (nb ≤ c) × Clean a.now na × Clean b.now nb }
-    ensures { CellBecomes c k
-        (sub_dv (at c w.old ns.old k) (mul_dv (valued a.now na) (valued b.now nb)))
-        w.old ns.old w.new ns.new result }
-{
-    let old = cells::count(ns, c, k);
-    let i = k * (c + 1);
-    let e = i + (c + 1);
-    let stored = cell::less(&mut w[i..e], old, a, na, b, nb);
-    let n = stored.count;
-    ns[k] = n as u8;
-    stored.fine
-}
+impl Cells<'_> {
+    ghost use Rattle.solve_partials.specs.Store.{values, value_in, Alike};
 
-// Cell t less f times cell p; the multiplier stands first in the matrix and second in the right sides. Answers whether what is stored is finite.
-pub(crate) fn reduce_cell(
-    w: &mut [f64],
-    ns: &mut [u8],
-    c: usize,
-    matrix: bool,
-    t: usize,
-    p: usize,
-    f: &[f64; 28],
-    nf: usize,
-) -> bool
-    requires { Room c w.old ns.old × (t < length ns.old) × (p < length ns.old) × (nf ≤ c) × Clean f.now nf }
-    ensures { CellBecomes c t
-        (less_by dual matrix (valued f.now nf) (at c w.old ns.old t) (at c w.old ns.old p))
-        w.old ns.old w.new ns.new result }
-{
-    let y = load(w, ns, c, p);
-    let ny = cells::count(ns, c, p);
-    if matrix {
-        return subtract_at(w, ns, c, t, f, nf, &y, ny);
+    // How many partials the value in cell k has.
+    pub(crate) fn count(&self, k: usize) -> usize
+        requires { k < length self.now.ns.now }
+        ensures { result ≡ count_at self.now.c self.now.ns.now k }
+    {
+        cells::count(&*self.ns, self.c, k)
     }
-    subtract_at(w, ns, c, t, &y, ny, f, nf)
-}
 
-// Cell i over cell j.
-pub(crate) fn quotient(w: &[f64], ns: &[u8], c: usize, i: usize, j: usize) -> Dv
-    requires { Room c w.now ns.now × (i < length ns.now) × (j < length ns.now) }
-    ensures { (result ≡ div_dv (at c w.now ns.now i) (at c w.now ns.now j)) × Normal c result }
-{
-    cells::get(w, ns, c, i).div(cells::get(w, ns, c, j))
-}
+    // The value in cell k and its partials, copied out.
+    pub(crate) fn load(&self, k: usize) -> [f64; 28]
+        requires { k < length self.now.ns.now }
+        ensures { let s = self.now in Copied result (count_at s.c s.ns.now k) (value_in s k) }
+    {
+        let n = self.count(k);
+        let a = k * (self.c + 1);
+        cell::copy(&self.w[a..a + (self.c + 1)], n)
+    }
 
-// The value of cell k alone.
-pub(crate) fn value_at(w: &[f64], c: usize, k: usize) -> f64
-    requires { k * (c + 1) + (c + 1) ≤ length w.now }
-    ensures { result ≡ get_or w.now (k * (c + 1)) nan }
-{
-    w[k * (c + 1)]
-}
+    // Cell k less the product of a and b. Answers whether what is stored is finite.
+    fn subtract_at(&mut self, k: usize, a: &[f64; 28], na: usize, b: &[f64; 28], nb: usize) -> bool
+        requires { (k < length self.old.ns.now) × (na ≤ self.old.c) × (nb ≤ self.old.c) × Clean a.now na × Clean b.now nb }
+        ensures cell { let s = self.old in
+            let t = self.new in
+            CellBecomes s.c k (sub_dv (value_in s k) (mul_dv (valued a.now na) (valued b.now nb))) s.w.now s.ns.now t.w.now t.ns.now result }
+        ensures same { Alike self.old self.new }
+    {
+        let old = self.count(k);
+        let i = k * (self.c + 1);
+        let e = i + (self.c + 1);
+        let w = &mut *self.w;
+        let t = &mut w[i..e];
+        let n = cell::subtract(t, old, a, na, b, nb);
+        let fine = cell::all_finite(t, n);
+        self.ns[k] = n as u8;
+        fine
+    }
 
-// The value in cell k.
-pub(crate) fn value_in(w: &[f64], ns: &[u8], c: usize, k: usize) -> Dv
-    requires { Room c w.now ns.now × (k < length ns.now) }
-    ensures { (result ≡ at c w.now ns.now k) × Normal c result }
-{
-    cells::get(w, ns, c, k)
-}
+    // Cell t less f times cell p; the multiplier stands first in the matrix and second in the right sides. Answers whether what is stored is finite.
+    // Stays: as the plain rows' choice.
+    pub(crate) fn reduce_cell(
+        &mut self,
+        matrix: bool,
+        t: usize,
+        p: usize,
+        f: &[f64; 28],
+        nf: usize,
+    ) -> bool
+        requires { (t < length self.old.ns.now) × (p < length self.old.ns.now) × (nf ≤ self.old.c) × Clean f.now nf }
+        ensures cell { let s = self.old in
+            let z = self.new in
+            CellBecomes s.c t (less_by dual matrix (valued f.now nf) (value_in s t) (value_in s p)) s.w.now s.ns.now z.w.now z.ns.now result }
+        ensures same { Alike self.old self.new }
+    {
+        let y = self.load(p);
+        let ny = self.count(p);
+        if matrix {
+            return self.subtract_at(t, f, nf, &y, ny);
+        }
+        self.subtract_at(t, &y, ny, f, nf)
+    }
 
-// The value with n partials in acc less the product of cells i and j, in place. Answers how many partials it has then.
-pub(crate) fn less_term(
-    acc: &mut [f64],
-    n: usize,
-    w: &[f64],
-    ns: &[u8],
-    c: usize,
-    i: usize,
-    j: usize,
-) -> usize
-    requires { Room c w.now ns.now × (i < length ns.now) × (j < length ns.now) × (length acc.old ≡ 28) × (n ≤ c) }
-    ensures { (result ≤ c) × (valued acc.new result
-        ≡ sub_dv (valued acc.old n) (mul_dv (at c w.now ns.now i) (at c w.now ns.now j))) }
-{
-    let x = load(w, ns, c, i);
-    let nx = cells::count(ns, c, i);
-    let y = load(w, ns, c, j);
-    let ny = cells::count(ns, c, j);
-    cell::subtract(acc, n, &x, nx, &y, ny)
-}
+    // The value in cell k.
+    pub(crate) fn value_in(&self, k: usize) -> Dv
+        requires { k < length self.now.ns.now }
+        ensures { (result ≡ value_in self.now k) × Normal self.now.c result }
+    {
+        cells::get(&*self.w, &*self.ns, self.c, k)
+    }
 
-// The value acc times 1 over cell k.
-pub(crate) fn divided(w: &[f64], ns: &[u8], c: usize, acc: Dv, k: usize) -> Dv
-    requires { Room c w.now ns.now × (k < length ns.now) × Normal c acc }
-    ensures { (result ≡ mul_dv acc (div_dv (cst_dv one64) (at c w.now ns.now k))) × Normal c result }
-{
-    let x = value_in(w, ns, c, k);
-    acc.mul(Dv::cst(1.0).div(x))
-}
+    // Cell i over cell j.
+    pub(crate) fn quotient(&self, i: usize, j: usize) -> Dv
+        requires { (i < length self.now.ns.now) × (j < length self.now.ns.now) }
+        ensures { (result ≡ div_dv (value_in self.now i) (value_in self.now j)) × Normal self.now.c result }
+    {
+        self.value_in(i) / self.value_in(j)
+    }
 
-// Cell i replaced by x, and cell j by y.
-pub(crate) fn put_two(w: &mut [f64], ns: &mut [u8], c: usize, i: usize, j: usize, x: Dv, y: Dv)
-    requires { Room c w.old ns.old × (i < length ns.old) × (j < length ns.old) × Normal c x × Normal c y }
-    ensures { held c w.new ns.new ≡ set (set (held c w.old ns.old) i x) j y }
-{
-    cells::put(w, ns, c, i, x);
-    cells::put(w, ns, c, j, y);
+    // The value of cell k alone.
+    pub(crate) fn value_at(&self, k: usize) -> f64
+        requires { k < length self.now.ns.now }
+        ensures { result ≡ (value_in self.now k).v }
+    {
+        self.w[k * (self.c + 1)]
+    }
+
+    // The value with n partials in acc less the product of cells i and j, in place. Answers how many partials it has then.
+    pub(crate) fn less_term(&self, acc: &mut [f64; 28], n: usize, i: usize, j: usize) -> usize
+        requires { (i < length self.now.ns.now) × (j < length self.now.ns.now) × (n ≤ self.now.c) }
+        ensures { (result ≤ self.now.c)
+            × (valued acc.new result ≡ sub_dv (valued acc.old n) (mul_dv (value_in self.now i) (value_in self.now j))) }
+    {
+        let x = self.load(i);
+        let nx = self.count(i);
+        let y = self.load(j);
+        let ny = self.count(j);
+        cell::subtract(acc, n, &x, nx, &y, ny)
+    }
+
+    // The value acc times 1 over cell k.
+    pub(crate) fn divided(&self, acc: Dv, k: usize) -> Dv
+        requires { (k < length self.now.ns.now) × Normal self.now.c acc }
+        ensures { (result ≡ mul_dv acc (div_dv (cst_dv one64) (value_in self.now k))) × Normal self.now.c result }
+    {
+        let x = self.value_in(k);
+        acc * (Dv::cst(1.0) / x)
+    }
+
+    // Cell i replaced by x, and cell j by y.
+    pub(crate) fn put_two(&mut self, i: usize, j: usize, x: Dv, y: Dv)
+        requires { (i < length self.old.ns.now) × (j < length self.old.ns.now) × Normal self.old.c x × Normal self.old.c y }
+        ensures cells { let t = self.new in held self.old.c t.w.now t.ns.now ≡ set (set (values self.old) i x) j y }
+        ensures same { Alike self.old self.new }
+    {
+        cells::put(&mut *self.w, &mut *self.ns, self.c, i, x);
+        cells::put(&mut *self.w, &mut *self.ns, self.c, j, y);
+    }
 }

@@ -1,14 +1,17 @@
 -- The span: among knots that do not fall there is one i, and only one, with knot i ≤ t < knot i+1, which the count finds and `span_of` is. Only the
 -- first n + 1 knots are read. Assumes nothing.
 use mathlib.Core.Path.{◌≡◌, refl, sym, ap, ◌∙◌}
-use mathlib.Core.Bool.{Bool, true, false, cond, true≢false}
+use mathlib.Core.Bool.{Bool, true, false, not, cond, true≢false}
 use mathlib.Core.List.{List}
 use Prim.Native.Nat.{ℕ, zero, suc, ◌+◌, ◌-◌, ◌≤◌, ◌<◌}
 use native.Mathlib.Nat.{le_refl}
 use native.Mathlib.Omega.{arith}
 use borrow.Author.Tests.{ltb-true, ltb-false, le-ltb, lt-leb}
 use lib.Dec.{ltb}
-use lib.ListN.{length, take, get_or-eq_default}
+use lib.ListN.{length, take, drop, get_or, get_or-eq_default}
+use lib.Seq.{get_or-drop}
+use Rattle.std.specs.List.{count_by}
+use Rattle.std.proofs.lemmas.List.Sums.{count_by_more_no, count_by_more_yes}
 use lib.Ieee.{Float, nan, inf, fin, lt, le, is_nan}
 use Rattle.meaning.proofs.Order.{nan_lt, nan_le, le_nan, lt_le, lt_le_trans, le_trans, lt_not_le, not_lt_le, not_le_lt, lt_left}
 use Rattle.meaning.specs.Search.{seek}
@@ -36,14 +39,21 @@ reached_bounds ks t (suc d) =
     let r = reached_bounds ks t d in
     by_two (lt t (knot ks (4 + d))) (λ h. rw h (omega (arith, r.0), omega (arith, r.1))) (λ h. rw h (omega (arith, r.0), omega (arith, r.1)))
 
--- one knot more
-pub reached_next : (ks : List Float) (t : Float) (j : ℕ) (b : Bool) → 4 ≤ j → lt t (knot ks j) ≡ b
-    → reached ks t (j + 1 - 4) ≡ cond b (reached ks t (j - 4)) (reached ks t (j - 4) + 1)
+-- counted in the list itself
+pub reached_count : (ks : List Float) (t : Float) (d : ℕ) → d ≤ length (drop 4 ks) → 3 + count_by (λ x. not (lt t x)) (take d (drop 4 ks)) ≡ reached ks t d
 unfolding reached
-reached_next ks t j b h q =
-    let e : j + 1 - 4 ≡ suc (j - 4) = omega arith in
-    let k : 4 + (j - 4) ≡ j = omega arith in
-    rw e (rw (k, q) refl)
+reached_count ks t zero h = omega arith
+reached_count ks t (suc d) h =
+    let l = drop 4 ks in
+    let p : Float → Bool = λ x. not (lt t x) in
+    let so_far = reached_count ks t d (omega arith) in
+    let here : p (get_or l d nan) ≡ not (lt t (knot ks (4 + d))) = ap p (get_or-drop 4 ks d nan) in
+    let more : d + 1 ≡ suc d = omega arith in
+    by_two (lt t (knot ks (4 + d)))
+    (λ e. rw e (ap (λ (k : ℕ). 3 + k) (rw more at (count_by_more_no p l d nan (omega arith) (here ∙ ap not e))) ∙ so_far))
+    (λ e.
+    let one = rw more at (count_by_more_yes p l d nan (omega arith) (here ∙ ap not e)) in
+    rw e (omega (arith, one, so_far)))
 
 -- ---- the one i
 

@@ -6,7 +6,6 @@ use Prim.Native.Nat.{ℕ, ◌+◌, ◌≤◌, ◌<◌}
 use native.Mathlib.Omega.{arith}
 use borrow.Author.Tests.{ltb-true, leb-true, not-true}
 use lib.Dec.{ltb, leb}
-use lib.ListN.{length}
 use lib.Ieee.{Float, lt, le, is_nan}
 use Rattle.meaning.proofs.Order.{lt_le, lt_left, lt_le_trans, le_trans, le_not_lt, not_le_lt}
 use Rattle.meaning.proofs.Tests.{and_left, and_right}

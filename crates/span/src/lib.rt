@@ -22,13 +22,7 @@ fn counted(u: &[f64], n: usize, t: f64) -> usize
     if t <= u[3] {
         return 3;
     }
-    let mut k = 3;
-    for j in 4..n {
-        if !(t < u[j]) {
-            k = k + 1;
-        }
-    }
-    k
+    3 + u[4..n].iter().filter(|knot| !(t < **knot)).count()
 }
 
 // The span of t among the knots of n control points where these do not fall; what the count comes to where they do, and 3 where n has no curve
@@ -41,13 +35,7 @@ pub fn span(u: &[f64], n: usize, t: f64) -> usize
     ensures fact_4 { result ≤ 65 }
     ensures fact_5 { (4 ≤ n → result < n) }
 {
-    if n < 4 {
-        return 3;
-    }
-    if n > 66 {
-        return 3;
-    }
-    if n >= u.len() {
+    if n < 4 || n > 66 || n >= u.len() {
         return 3;
     }
     counted(u, n, t)
@@ -59,23 +47,8 @@ pub fn within(u: &[f64], n: usize, t: f64, i: usize) -> bool
     ensures fact_1 { result ≡ within u.now n t i }
     ensures fact_2 { (result ≡ true → (3 ≤ i) × (i ≤ 65)) }
 {
-    if i < 3 {
+    if i < 3 || i >= n || n > 66 || n >= u.len() || t <= u[3] {
         return false;
     }
-    if i >= n {
-        return false;
-    }
-    if n > 66 {
-        return false;
-    }
-    if n >= u.len() {
-        return false;
-    }
-    if t <= u[3] {
-        return false;
-    }
-    if u[i] <= t {
-        return t < u[i + 1];
-    }
-    false
+    u[i] <= t && t < u[i + 1]
 }

@@ -1,2 +1,3 @@
--- What C gets from one function, another accepts.
+-- What C gets from one function, another accepts; knots that are not given.
 pub mod Moved
+pub mod Ungiven

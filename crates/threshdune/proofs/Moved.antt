@@ -3,15 +3,15 @@ use mathlib.Core.Path.{◌≡◌}
 use mathlib.Core.List.{List}
 use Prim.Native.Nat.{ℕ}
 use lib.Ieee.{Float}
-use Rattle.refusal.specs.declared.Refusal.{Refusal}
 use Rattle.refusal.proofs.Rows.{Passed}
 use Rattle.moving.specs.Moving.{moved_out, moved_into}
 use Rattle.moving.proofs.Into.{into_room, into_accepted}
 use Rattle.c_curves.specs.Curves.{read_curve, as_record}
 use Rattle.c_curves.proofs.Rooms.{room_front}
+use Rattle.refusal.specs.Refusals.{Verdict}
 
 module _ (n k : ℕ) (l : Float) (xs ys ks : List Float) (i : ℕ) (x y : Float) (ps qs : List Float) (m : Float) where
-  pub record_move_accepted : {r : Refusal} {ps' qs' : List Float} {m' : Float} → moved_out r ps' qs' m' ≡ moved_into (read_curve n k l xs ys ks) i x y ps qs m
+  pub record_move_accepted : {r : Verdict} {ps' qs' : List Float} {m' : Float} → moved_out r ps' qs' m' ≡ moved_into (read_curve n k l xs ys ks) i x y ps qs m
       → r.number ≡ 0 → Passed (as_record n k m' ps' qs' ks).rules
   unfolding read_curve
   record_move_accepted {ps' = ps'} {qs' = qs'} e z =

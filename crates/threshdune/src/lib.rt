@@ -30,6 +30,7 @@ ghost use Rattle.c_curves.specs.Curves.{is_given, form_of, read_curve, as_record
 ghost use Rattle.moving.specs.Moving.{moved_out, moved_into};
 
 use knots::Form;
+use offer::Slices;
 use partials::Dv;
 use plane::P2;
 
@@ -48,17 +49,14 @@ pub extern "C" fn threshdune_build_control(
         ≡ built_into Control coords.now (is_given given) knots.now [] control.old knots_out.old }
 {
     // Control points need no work.
-    let mut work = [0.0; 1];
-    let r = build::build_slices(
+    refusal::number_of(build::build_slices(
         Form::Control,
         coords,
-        given != 0,
-        knots,
-        &mut work,
+        c_curves::given_knots(given, knots),
+        &mut [],
         control,
         knots_out,
-    );
-    r.number
+    ))
 }
 
 // The curve through these fit points, made in the lent work buffer.
@@ -72,16 +70,7 @@ pub extern "C" fn threshdune_build_fit(
     ensures { sliced (refusal result) control.new knots_out.new work.new
         ≡ built_into Fit coords.now false [] work.old control.old knots_out.old }
 {
-    let r = build::build_slices(
-        Form::Fit,
-        coords,
-        false,
-        &coords[..0],
-        work,
-        control,
-        knots_out,
-    );
-    r.number
+    refusal::number_of(build::build_slices(Form::Fit, coords, None, work, control, knots_out))
 }
 
 // The point at t and its derivatives up to the order.
@@ -98,8 +87,8 @@ pub extern "C" fn threshdune_evaluate(
     ensures hull { InItsHull (in_slices coords.now knots.now) t (refusal result) out.new }
     ensures never { NeverRefused (in_slices coords.now knots.now) t order out.old (refusal result) }
 {
-    let r = point::evaluate_slices(coords, knots, t, order as usize, out);
-    r.number
+    let curve = Slices { coords, knots };
+    refusal::number_of(point::evaluate(&curve, t, order as usize, out))
 }
 
 // The points at the parameters ts with their derivatives up to the order, each in its place, and the refusal of each.
@@ -119,8 +108,8 @@ pub extern "C" fn threshdune_evaluate_many(
     ensures never { NoneRefused (in_slices coords.now knots.now) ts.now order out.old
         (refusal result) refusals.new }
 {
-    let r = points::evaluate_many_slices(coords, knots, ts, order as usize, out, refusals);
-    r.number
+    let curve = Slices { coords, knots };
+    refusal::number_of(points::evaluate_many(&curve, ts, order as usize, out, refusals))
 }
 
 // The point at t and the unit tangent.
@@ -135,8 +124,7 @@ pub extern "C" fn threshdune_point_tangent(
         ≡ tangent_answer (in_slices coords.now knots.now) t out.old }
     ensures hull { InItsHull (in_slices coords.now knots.now) t (refusal result) out.new }
 {
-    let r = point::point_tangent_slices(coords, knots, t, out);
-    r.number
+    refusal::number_of(point::point_tangent(&Slices { coords, knots }, t, out))
 }
 
 // The length of the control polygon.
@@ -145,8 +133,8 @@ pub extern "C" fn threshdune_length(coords: &[f64], knots: &[f64], length: &mut 
     ensures { behind (refusal result) length.new
         ≡ handed (length_answer (in_slices coords.now knots.now)) 0 length.old }
 {
-    let r = c_curves::hand_number(measure::length_slices(coords, knots), length);
-    r.number
+    let found = measure::length(&Slices { coords, knots });
+    refusal::number_of(c_curves::hand_number(found, length))
 }
 
 // The first knot and the last.
@@ -162,8 +150,8 @@ pub extern "C" fn threshdune_domain(
     ensures to_after { behind (refusal result) to.new
         ≡ handed (domain_answer (in_slices coords.now knots.now)) 1 to.old }
 {
-    let r = c_curves::hand_interval(measure::domain_slices(coords, knots), from, to);
-    r.number
+    let found = measure::domain(&Slices { coords, knots });
+    refusal::number_of(c_curves::hand_interval(found, from, to))
 }
 
 // per_span parameters from the start of each rising knot pair on, then the domain's end.
@@ -178,8 +166,8 @@ pub extern "C" fn threshdune_samples(
     ensures { counted (refusal result) out.new count.new
         ≡ samples_answer (in_slices coords.now knots.now) per_span out.old count.old }
 {
-    let r = samples::samples_slices(coords, knots, per_span as usize, out, count);
-    r.number
+    let found = samples::samples(&Slices { coords, knots }, per_span as usize, out);
+    refusal::number_of(c_curves::hand_count(found, count))
 }
 
 // The parameter of the curve's point that lies nearest to (px, py).
@@ -194,8 +182,8 @@ pub extern "C" fn threshdune_closest(
     ensures { behind (refusal result) t.new
         ≡ handed (closest_answer (in_slices coords.now knots.now) (record { x = px; y = py })) 0 t.old }
 {
-    let r = c_curves::hand_number(closest::closest_slices(coords, knots, px, py), t);
-    r.number
+    let found = closest::closest(&Slices { coords, knots }, px, py);
+    refusal::number_of(c_curves::hand_number(found, t))
 }
 
 // The parameters of the curve's points that lie nearest to these points, x and y in turn, each in its place, and the refusal of each.
@@ -210,8 +198,8 @@ pub extern "C" fn threshdune_closest_many(
     ensures { many (refusal result) out.new refusals.new
         ≡ closest_many (in_slices coords.now knots.now) points.now out.old refusals.old }
 {
-    let r = closest::closest_many_slices(coords, knots, points, out, refusals);
-    r.number
+    let curve = Slices { coords, knots };
+    refusal::number_of(closest::closest_many(&curve, points, out, refusals))
 }
 
 // The residuals of the point (px, py), held on the curve of these handles at t, with a row of their partials for each. The handles are fit points where
@@ -235,12 +223,10 @@ pub extern "C" fn threshdune_residual(
         (held.asked (form_of fit) handles.now (is_given given) knots.now px py t)
         (held.lent work.old counts.old residuals.old rows.old) }
 {
-    let form = c_curves::form_of(fit);
-    let r = residual::residual(
-        form,
+    refusal::number_of(residual::residual(
+        c_curves::form_of(fit),
         handles,
-        given != 0,
-        knots,
+        c_curves::given_knots(given, knots),
         px,
         py,
         t,
@@ -248,8 +234,7 @@ pub extern "C" fn threshdune_residual(
         counts,
         residuals,
         rows,
-    );
-    r.number
+    ))
 }
 
 // ---- numbers
@@ -324,7 +309,7 @@ pub extern "C" fn threshdune_partials_add(
 {
     let x = c_values::read_value(a, a_count as usize);
     let y = c_values::read_value(b, b_count as usize);
-    c_values::answer(x.add(y), out, count)
+    c_values::answer(x + y, out, count)
 }
 
 // a - b.
@@ -342,7 +327,7 @@ pub extern "C" fn threshdune_partials_sub(
 {
     let x = c_values::read_value(a, a_count as usize);
     let y = c_values::read_value(b, b_count as usize);
-    c_values::answer(x.sub(y), out, count)
+    c_values::answer(x - y, out, count)
 }
 
 // a * b.
@@ -360,7 +345,7 @@ pub extern "C" fn threshdune_partials_mul(
 {
     let x = c_values::read_value(a, a_count as usize);
     let y = c_values::read_value(b, b_count as usize);
-    c_values::answer(x.mul(y), out, count)
+    c_values::answer(x * y, out, count)
 }
 
 // a / b.
@@ -378,7 +363,7 @@ pub extern "C" fn threshdune_partials_div(
 {
     let x = c_values::read_value(a, a_count as usize);
     let y = c_values::read_value(b, b_count as usize);
-    c_values::answer(x.div(y), out, count)
+    c_values::answer(x / y, out, count)
 }
 
 // -a.
@@ -393,7 +378,7 @@ pub extern "C" fn threshdune_partials_neg(
         out.new count.new }
 {
     let x = c_values::read_value(a, a_count as usize);
-    c_values::answer(x.neg(), out, count)
+    c_values::answer(-x, out, count)
 }
 
 // The root of a.
@@ -446,7 +431,7 @@ pub extern "C" fn threshdune_plane_add(ax: f64, ay: f64, bx: f64, by: f64, out: 
 {
     let a = P2 { x: ax, y: ay };
     let b = P2 { x: bx, y: by };
-    c_values::answer_pair(a.add(b), out)
+    c_values::answer_pair(a + b, out)
 }
 
 // a - b.
@@ -456,7 +441,7 @@ pub extern "C" fn threshdune_plane_sub(ax: f64, ay: f64, bx: f64, by: f64, out: 
 {
     let a = P2 { x: ax, y: ay };
     let b = P2 { x: bx, y: by };
-    c_values::answer_pair(a.sub(b), out)
+    c_values::answer_pair(a - b, out)
 }
 
 // k times a.
@@ -542,7 +527,7 @@ pub extern "C" fn threshdune_plane_partials_add(
 {
     let x = c_values::read_vector(a, a_counts);
     let y = c_values::read_vector(b, b_counts);
-    c_values::answer_vector(x.add(y), out, counts)
+    c_values::answer_vector(x + y, out, counts)
 }
 
 // a - b.
@@ -560,7 +545,7 @@ pub extern "C" fn threshdune_plane_partials_sub(
 {
     let x = c_values::read_vector(a, a_counts);
     let y = c_values::read_vector(b, b_counts);
-    c_values::answer_vector(x.sub(y), out, counts)
+    c_values::answer_vector(x - y, out, counts)
 }
 
 // k times a.
@@ -680,7 +665,7 @@ pub extern "C" fn threshdune_partials_basis(
 {
     let six = c_values::read_six(w, w_counts);
     let x = c_values::read_value(t, t_count as usize);
-    let rows = basis_partials::basis(six, x, order as usize);
+    let rows = derivatives::basis(&six, x, order as usize);
     c_values::answer_rows(rows, out, counts)
 }
 
@@ -707,8 +692,7 @@ pub extern "C" fn threshdune_record_evaluate(
         t order out.old (refusal result) }
 {
     let c = c_curves::read_curve(points, knot_count, length, xs, ys, knots);
-    let r = point::evaluate(c, t, order as usize, out);
-    r.number
+    refusal::number_of(point::evaluate(&c, t, order as usize, out))
 }
 
 // The points at the parameters ts with their derivatives up to the order, each in its place, and the refusal of each.
@@ -734,8 +718,7 @@ pub extern "C" fn threshdune_record_evaluate_many(
         order out.old (refusal result) refusals.new }
 {
     let c = c_curves::read_curve(points, knot_count, length, xs, ys, knots);
-    let r = points::evaluate_many(c, ts, order as usize, out, refusals);
-    r.number
+    refusal::number_of(points::evaluate_many(&c, ts, order as usize, out, refusals))
 }
 
 // The point at t and the unit tangent.
@@ -756,8 +739,7 @@ pub extern "C" fn threshdune_record_point_tangent(
         out.new }
 {
     let c = c_curves::read_curve(points, knot_count, length, xs, ys, knots);
-    let r = point::point_tangent(c, t, out);
-    r.number
+    refusal::number_of(point::point_tangent(&c, t, out))
 }
 
 // The length of the control polygon.
@@ -775,8 +757,7 @@ pub extern "C" fn threshdune_record_length(
         ≡ handed (length_answer (as_record points knot_count length xs.now ys.now knots.now)) 0 answer.old }
 {
     let c = c_curves::read_curve(points, knot_count, length, xs, ys, knots);
-    let r = c_curves::hand_number(measure::length(c), answer);
-    r.number
+    refusal::number_of(c_curves::hand_number(measure::length(&c), answer))
 }
 
 // The first knot and the last.
@@ -797,8 +778,7 @@ pub extern "C" fn threshdune_record_domain(
         ≡ handed (domain_answer (as_record points knot_count length xs.now ys.now knots.now)) 1 to.old }
 {
     let c = c_curves::read_curve(points, knot_count, length, xs, ys, knots);
-    let r = c_curves::hand_interval(measure::domain(c), from, to);
-    r.number
+    refusal::number_of(c_curves::hand_interval(measure::domain(&c), from, to))
 }
 
 // per_span parameters from the start of each rising knot pair on, then the domain's end.
@@ -819,8 +799,8 @@ pub extern "C" fn threshdune_record_samples(
         per_span out.old count.old }
 {
     let c = c_curves::read_curve(points, knot_count, length, xs, ys, knots);
-    let r = samples::samples(c, per_span as usize, out, count);
-    r.number
+    let found = samples::samples(&c, per_span as usize, out);
+    refusal::number_of(c_curves::hand_count(found, count))
 }
 
 // The parameter of the curve's point that lies nearest to (px, py).
@@ -841,8 +821,7 @@ pub extern "C" fn threshdune_record_closest(
         (record { x = px; y = py })) 0 t.old }
 {
     let c = c_curves::read_curve(points, knot_count, length, xs, ys, knots);
-    let r = c_curves::hand_number(closest::closest(c, px, py), t);
-    r.number
+    refusal::number_of(c_curves::hand_number(closest::closest(&c, px, py), t))
 }
 
 // The parameters of the curve's points that lie nearest to these marks, x and y in turn, each in its place, and the refusal of each.
@@ -863,8 +842,7 @@ pub extern "C" fn threshdune_record_closest_many(
         out.old refusals.old }
 {
     let c = c_curves::read_curve(points, knot_count, length, xs, ys, knots);
-    let r = closest::closest_many(c, marks, out, refusals);
-    r.number
+    refusal::number_of(closest::closest_many(&c, marks, out, refusals))
 }
 
 // The record with the control point of this index at (x, y): its coordinates, x and y apart, and its length.
@@ -888,6 +866,6 @@ pub extern "C" fn threshdune_record_move(
         xs_out.old ys_out.old length_out.old }
 {
     let c = c_curves::read_curve(points, knot_count, length, xs, ys, knots);
-    let r = moving::move_into(c, index as usize, x, y, xs_out, ys_out, length_out);
-    r.number
+    let moved = moving::move_into(&c, index as usize, x, y, xs_out, ys_out, length_out);
+    refusal::number_of(moved)
 }

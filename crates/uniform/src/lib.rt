@@ -1,8 +1,10 @@
 // Uniform knots.
 #![tactic(auto)]
 
-ghost use Rattle.std.specs.Prelude.{◌≡◌, ◌+◌, ◌≤◌, ◌<◌};
+ghost use Rattle.std.specs.Prelude.{◌≡◌, ◌≤◌};
 ghost use Rattle.uniform.specs.Uniform.{uniform_at, uniform_of};
+
+use std::array;
 
 // Knot j of the uniform knots for n control points.
 fn uniform_at(n: usize, j: usize) -> f64
@@ -10,17 +12,14 @@ fn uniform_at(n: usize, j: usize) -> f64
     ensures { result ≡ uniform_at n j }
 {
     if j < 4 {
-        return 0.0;
+        0.0
+    } else if j < n {
+        (j - 3) as f64 / (n - 3) as f64
+    } else if j < n + 4 {
+        1.0
+    } else {
+        0.0
     }
-    if j < n {
-        let i = j - 3;
-        let spans = n - 3;
-        return i as f64 / spans as f64;
-    }
-    if j < n + 4 {
-        return 1.0;
-    }
-    0.0
 }
 
 // The uniform knots for n control points, all +0.0 where no curve has so many.
@@ -28,15 +27,8 @@ fn uniform_at(n: usize, j: usize) -> f64
 pub fn uniform(n: usize) -> [f64; 70]
     ensures { result ≡ uniform_of n }
 {
-    let mut u = [0.0; 70];
-    if n < 4 {
-        return u;
+    if n < 4 || n > 66 {
+        return [0.0; 70];
     }
-    if n > 66 {
-        return u;
-    }
-    for j in 0..70 {
-        u[j] = uniform_at(n, j);
-    }
-    u
+    array::from_fn(|j| uniform_at(n, j))
 }

@@ -8,4 +8,4 @@ returns-in-Control c = by_control _ _ _ _ _ c.in-Control.is c.build_control.ensu
 pub returns-in-Fit : goal.returns-in-Fit
 returns-in-Fit c =
     let a = c.args in
-    by_fit a.coords.now a.given a.knots.now a.short a.work.now c.in-Fit.is c.build_fit.ensures
+    by_fit a.coords.now _ _ a.short a.work.now c.in-Fit.is c.build_fit.ensures

@@ -5,4 +5,4 @@ use Rattle.c_values.proofs.read_vector.Goals as goal
 pub returns : goal.returns
 unfolding read_v
 returns c =
-    rw (c.read-y.ensures, c.count_at-2.ensures, c.read-x.ensures, c.count_at.ensures)
+    rw (c.read-2.ensures, c.count_at-2.ensures, c.read.ensures, c.count_at.ensures)

@@ -13,8 +13,8 @@ pub returns : goal.returns
 unfolding cell_at
 returns c =
     let a = c.args in
-    let e : c.counted-n.result ≡ min (get_or a.ns.now a.k 0) a.c =
-    c.counted-n.ensures.0 ∙ ap (λ (n : ℕ). min n a.c) c.wide.ensures in
+    let e : c.min-n.result ≡ min (get_or a.ns.now a.k 0) a.c =
+    c.min-n.ensures ∙ ap (λ (n : ℕ). min n a.c) c.from.ensures in
     rw (sym e)
     (c.read_cell.ensures
-    ∙ value_same _ _ _ (λ j h. lent_at a.w.now (a.k * (a.c + 1)) (a.c + 1) j nan (omega (arith, c.counted-n.ensures.1))))
+    ∙ value_same _ _ _ (λ j h. lent_at a.w.now (a.k * (a.c + 1)) (a.c + 1) j nan (omega (arith, c.min-n.ensures))))

@@ -10,5 +10,5 @@ pub returns : goal.returns
 returns c =
     let a = c.args in (
       rw c.write_cell.ensures (back_paste a.w.now (doubles_of a.c a.d) (a.k * (a.c + 1)) (a.c + 1) (doubles-long a.c a.d)),
-      ap (λ (n : ℕ). set a.ns.now a.k n) c.counted-n.ensures.0,
+      ap (λ (n : ℕ). set a.ns.now a.k n) c.min-n.ensures,
     )

@@ -1,25 +1,26 @@
--- `cells::read_cell` meets its contract: the loop copies one partial in each turn.
-use native.Mathlib.Omega.{arith}
-use Prim.Native.Nat.{◌-◌}
-use mathlib.Core.Path.{ap}
+-- `cells::read_cell` meets its contract: the partials are copied.
+use mathlib.Core.Path.{◌≡◌, ap, ◌∙◌}
 use mathlib.Core.List.{List}
-use native.Mathlib.Numerals.{add-one}
-use lib.ListN.{get_or}
+use Prim.Native.Nat.{ℕ, suc, ◌+◌, ◌-◌, ◌<◌}
+use native.Mathlib.Omega.{arith}
+use lib.ListN.{length, get_or, take, drop, length-drop}
+use lib.Seq.{get_or-take, get_or-drop, length-take-le}
 use lib.Ieee.{Float, nan}
-use Rattle.meaning.proofs.For.{first, next, last}
-use Rattle.partials.specs.Dual.{partials}
 use Rattle.cells.specs.Cell.{value_of}
-use borrow.Author.Rules.{rules}
+use Rattle.cells.proofs.Values.{partials_laid}
 use Rattle.cells.proofs.read_cell.Goals as goal
 
-pub loop-j-init : goal.loop-j-init
-loop-j-init c = (first (omega arith), omega arith)
-
-pub loop-j-preserved : goal.loop-j-preserved
-loop-j-preserved c = (next c.loop-j.invariant.0 (omega arith) (rw (add-one c.loop-j.j)), search rules)
-
 pub returns : goal.returns
-unfolding value_of partials
+unfolding value_of
 returns c =
     let a = c.args in
-    ap (λ (g : List Float). record { v = get_or a.t.now 0 nan; g = g; n = a.n }) (last c.loop-j.invariant.0 (omega arith))
+    let t = a.t.now in
+    let one : a.n + 1 - 1 ≡ a.n = omega arith in
+    let copied : c.copy_from_slice.new.self ≡ take a.n (drop 1 t) = c.copy_from_slice.ensures.after ∙ ap (λ (n : ℕ). take n (drop 1 t)) one in
+    let each : (j : ℕ) → j < a.n → get_or c.copy_from_slice.new.self j nan ≡ get_or t (suc j) nan =
+    λ j h.
+    let next : 1 + j ≡ suc j = omega arith in
+    ap (λ (l : List Float). get_or l j nan) copied ∙ get_or-take a.n (drop 1 t) j nan h ∙ get_or-drop 1 t j nan ∙ ap (λ (i : ℕ). get_or t i nan) next in
+    let many : length c.copy_from_slice.new.self ≡ a.n = ap length copied ∙ length-take-le a.n (drop 1 t) (omega (arith, length-drop 1 t, c.requires.0)) in
+    ap (λ (g : List Float). record { v = get_or t 0 nan; g = g; n = a.n })
+    (partials_laid a.n (λ j. get_or t (suc j) nan) c.copy_from_slice.new.self c.requires.1 many each)

@@ -1,28 +1,25 @@
--- `evaluate::orders` meets its contract.
-use mathlib.Core.Path.{◌∙◌}
+-- `evaluate::orders` meets its contract: the piece of the span in which t lies, or the end past which it lies.
+use mathlib.Core.Path.{refl, sym, ap, ◌∙◌}
+use mathlib.Core.Bool.{true≢false}
+use Rattle.std.specs.Option.{unwrap_or}
 use Rattle.meaning.specs.Scalar.{plain}
-use Rattle.evaluate.proofs.Places.{too_few, too_many_lem, too_high, before-domain, past-domain, in_domain}
+use Rattle.shape.specs.Spline.{shape_of}
+use Rattle.evaluate.specs.Piece.{found, piece_of}
+use Rattle.evaluate.proofs.Pieces.{on_window_is}
+use Rattle.evaluate.proofs.Places.{out_of_range, answered}
 use Rattle.evaluate.proofs.orders.Goals as goal
 
-pub returns-then-n-lt4 : goal.returns-then-n-lt4
-returns-then-n-lt4 c = too_few plain _ _ _ _ c.if-n-lt4.true
-
-pub returns-then-n-gt66 : goal.returns-then-n-gt66
-returns-then-n-gt66 c = too_many_lem plain _ _ _ _ c.if-n-lt4.false c.if-n-gt66.true
-
-pub returns-then-nd-gt4 : goal.returns-then-nd-gt4
-returns-then-nd-gt4 c = too_high plain _ _ _ _ c.if-n-lt4.false c.if-n-gt66.false c.if-nd-gt4.true
-
-pub returns-then-t-lo : goal.returns-then-t-lo
-returns-then-t-lo c =
-    c.beyond.ensures ∙ before-domain plain _ _ _ _ c.if-n-lt4.false c.if-n-gt66.false c.if-nd-gt4.false c.if-t-lo.true
-
-pub returns-then-t-hi : goal.returns-then-t-hi
-returns-then-t-hi c =
-    c.beyond-then-t-hi.ensures
-    ∙ past-domain plain _ _ _ _ c.if-n-lt4.false c.if-n-gt66.false c.if-nd-gt4.false c.if-t-lo.false c.if-t-hi.true
+pub returns-then-not-in_range : goal.returns-then-not-in_range
+returns-then-not-in_range c =
+    out_of_range plain _ (shape_of c.args.spline) _ _ (λ w. true≢false (sym (c.in_range.ensures.1 w) ∙ c.if-not-in_range.true))
 
 pub returns : goal.returns
 returns c =
-    c.inside.ensures
-    ∙ in_domain plain _ _ _ _ c.if-n-lt4.false c.if-n-gt66.false c.if-nd-gt4.false c.if-t-lo.false c.if-t-hi.false
+    let a = c.args in
+    let s = shape_of a.spline in
+    let i = c.span-i in
+    let x = unwrap_or c.end_past-end.result a.t in
+    c.orders_by.ensures
+    ∙ rw c.piece_at.ensures
+    (answered (found s) s a.t a.nd (c.in_range.ensures.0 c.if-not-in_range.false) (piece_of plain s i.result) refl refl c.end_past-end.ensures
+    (λ m. on_window_is plain (found s) s x m i.result (i.ensures.fact_1 ∙ ap (found s) c.unwrap_or.ensures) i.ensures.fact_3 i.ensures.fact_4))

@@ -1,9 +1,13 @@
 -- `evaluate::straight` meets its contract.
-use Rattle.evaluate.proofs.Rooms.{straight_point, straight_more}
+use mathlib.Core.Path.{refl, ◌∙◌}
+use Rattle.plane.specs.View.{view}
+use Rattle.evaluate.specs.Straight.{straight_of}
+use Rattle.evaluate.proofs.Rooms.{point_alone, straight_more}
 use Rattle.evaluate.proofs.straight.Goals as goal
 
-pub returns-then-nd-ge1 : goal.returns-then-nd-ge1
-returns-then-nd-ge1 c = straight_more _ _ _ c.if-nd-ge1.true c.requires
+pub returns-then-nd-eq0 : goal.returns-then-nd-eq0
+unfolding straight_of
+returns-then-nd-eq0 c = let a = c.args in c.alone.ensures ∙ point_alone (straight_of (view a.p) (view a.d)) a.nd c.if-nd-eq0.true refl
 
-pub returns-else-nd-ge1 : goal.returns-else-nd-ge1
-returns-else-nd-ge1 c = straight_point _ _ _ c.if-nd-ge1.false
+pub returns : goal.returns
+returns c = let a = c.args in straight_more (view a.p) (view a.d) a.nd c.if-nd-eq0.false c.requires

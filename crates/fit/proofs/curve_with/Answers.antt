@@ -1,28 +1,17 @@
--- `fit::curve_with` meets its contract.
-use mathlib.Core.Path.{◌≡◌, ap, ◌∙◌}
-use mathlib.Core.Bool.{Bool, not, ◌&&◌}
-use borrow.Author.Rules.{rules}
-use lib.Dec.{ltb}
+-- `fit::curve_with` meets its contract: where there is no solution, 15 alone is left.
+use mathlib.Core.Path.{◌≡◌, refl, ◌∙◌}
+use mathlib.Core.Bool.{Bool, false, not, ◌&&◌}
+use Rattle.meaning.proofs.Tests.{by_two}
 use Rattle.outcome.specs.Outcome.{some_wild}
-use Rattle.curve.specs.Record.{curve_over}
-use Rattle.curve.specs.Making.{measuring}
+use Rattle.refusal.specs.Refusals.{first_of}
+use Rattle.curve.specs.Build.{building}
 use Rattle.fit.proofs.curve_with.Goals as goal
-use Rattle.fit.proofs.curve_with.Goals.{After-both-fine}
 
--- the verdict
-abbrev fine : After-both-fine → Bool
-fine c = let a = c.args in not (some_wild a.u 70) && (a.stored && a.s.fine)
+no_more : (a b : Bool) → (a && (b && false)) ≡ false
+no_more a b = by_two a (λ e. rw e (by_two b (λ f. rw f refl) (λ f. rw f refl))) (λ e. rw e refl)
 
-judged : (c : After-both-fine) → c.both-fine.result ≡ fine c
-judged c = c.both-fine.ensures ∙ (λ i. not (ltb (c.first_wild-wild.ensures i) 70) && c.both.ensures i)
-
-pub slice_bounds-first_wild-end : goal.slice_bounds-first_wild-end
-slice_bounds-first_wild-end c = search rules
-
-pub first_wild-wild-requires : goal.first_wild-wild-requires
-first_wild-wild-requires c = search rules
-
-pub returns : goal.returns
-returns c =
+pub returns-in_default : goal.returns-in_default
+unfolding building first_of
+returns-in_default c =
     let a = c.args in
-    c.measured.ensures ∙ ap (λ (t : Bool). measuring t (curve_over a.m a.u a.s.xs a.s.ys)) (judged (goal.at.returns c).After-both-fine)
+    rw (c.in_default.is, no_more (not (some_wild a.u 70)) a.stored) refl

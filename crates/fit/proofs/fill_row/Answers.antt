@@ -1,8 +1,4 @@
 -- `fit::fill_row` meets its contract: the row is cleared and gets its six numbers; the verdict is theirs.
-use mathlib.Core.Path.{ap}
-use mathlib.Core.Bool.{not}
-use Prim.Native.Nat.{ℕ}
-use lib.Dec.{ltb}
 use Rattle.plane.specs.View.{view}
 use Rattle.fit.proofs.Six.{six_stored}
 use Rattle.fit.proofs.fill_row.Goals as goal
@@ -12,4 +8,4 @@ returns c =
     let sides = c.put_sides.ensures in
     let four = c.put_four.ensures in
     let clear = c.clear.ensures in
-    six_stored _ c.args.i c.args.m (view c.args.b) c.requires.2 c.requires.3 c.requires.1 clear four sides (ap (λ (n : ℕ). not (ltb n 6)) c.first_wild-wild.ensures)
+    six_stored _ c.args.i c.args.m (view c.args.b) c.requires.2 c.requires.3 c.requires.1 clear four sides c.all_finite.ensures

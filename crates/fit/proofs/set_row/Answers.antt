@@ -13,6 +13,6 @@ pub returns : goal.returns
 unfolding found_row row_of row_at
 returns c =
     let f = c.fill_row.ensures in
-    let b = c.basis-ders.ensures in
+    let b = c.basis_in-ders.ensures in
     let i = c.span-i.ensures.fact_1 in
     rw (b, i) at f

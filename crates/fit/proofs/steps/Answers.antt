@@ -1,15 +1,16 @@
 -- `fit::steps` meets its contract: a turn stores one step.
-use Prim.Native.Nat.{◌-◌}
-use mathlib.Core.Path.{refl, ◌≡◌}
-use native.Mathlib.Omega.{arith}
-use Rattle.meaning.proofs.Filling.{empty, filled}
+use Rattle.std.proofs.Common.{refl, arith}
+use Rattle.meaning.proofs.Filling.{empty, filled, full}
+use Rattle.meaning.specs.Scalar.{plain}
+use Rattle.fit.proofs.Sums.{step_made}
 use Rattle.fit.proofs.steps.Goals as goal
 
 pub loop-k-init : goal.loop-k-init
-loop-k-init c = (omega arith, empty refl)
+loop-k-init c = empty refl
 
 pub loop-k-preserved : goal.loop-k-preserved
-loop-k-preserved c = (omega arith, filled c.loop-k.invariant.1 (omega arith) c.step.ensures)
+loop-k-preserved c =
+    filled c.loop-k.invariant c.loop-k-test.true (step_made plain c.args.q.now c.loop-k.k c.point.ensures c.point-in-loop-k.ensures c.step.ensures)
 
 pub returns : goal.returns
-returns c = let l = c.loop-k in let e : l.k ≡ c.args.n - 1 = omega arith in rw e at l.invariant.1
+returns c = full c.loop-k.invariant (omega arith)

@@ -2,7 +2,7 @@
 use mathlib.Core.Path.{◌≡◌, refl, ◌∙◌}
 use Prim.Native.Nat.{◌+◌, ◌-◌, ◌<◌}
 use native.Mathlib.Omega.{arith}
-use Rattle.plane_partials.specs.View.{view_d}
+use Rattle.plane.specs.View.{view}
 use Rattle.fit_partials.proofs.Laid.{room_part}
 use Rattle.fit_partials.proofs.Rows.{row_stored}
 use Rattle.fit_partials.proofs.fill_row.Goals as goal
@@ -49,5 +49,5 @@ returns c =
     let p = c.requires.fact_1 in
     let e : a.i - 3 + 3 ≡ a.i = omega (arith, p.0) in
     let high : a.i - 3 + 3 < a.m = omega (arith, p.0, p.1) in
-    row_stored a.c a.at (a.i - 3) a.m a.four (view_d a.b) high e c.blank.ensures c.store_four-first.ensures c.blank-2.ensures
-    c.store_sides-second.ensures c.both.ensures
+    row_stored a.c a.at (a.i - 3) a.m a.four.now (view a.b.now) high e c.blank.ensures c.store_four-first.ensures c.blank-2.ensures
+    c.store_sides-second.ensures refl

@@ -10,7 +10,7 @@ pub returns-then-not-has_room : goal.returns-then-not-has_room
 returns-then-not-has_room c =
     let a = c.args in
     let e = sym c.has_room.ensures ∙ not-true c.has_room.result (ap not c.if-not-has_room.true) in record {
-      answer = c.no_piece.ensures ∙ unable_piece a.q.now a.c a.t a.w.now a.ns.now e;
+      answer = unable_piece a.q.now a.c a.t a.w.now a.ns.now e;
       doubles = unable_doubles a.q.now a.c a.t a.w.now a.ns.now e;
       counts = unable_counts a.q.now a.c a.t a.w.now a.ns.now e;
     }

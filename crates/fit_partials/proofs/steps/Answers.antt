@@ -1,15 +1,18 @@
 -- `fit_partials::steps` meets its contract: a turn stores one step.
-use mathlib.Core.Path.{◌≡◌, refl}
-use Prim.Native.Nat.{◌-◌}
-use native.Mathlib.Omega.{arith}
-use Rattle.meaning.proofs.Filling.{empty, filled}
+use Rattle.std.proofs.Common.{refl, arith}
+use Rattle.meaning.proofs.Filling.{empty, filled, full}
+use Rattle.partials.specs.Dual.{dual}
+use Rattle.fit.proofs.Sums.{step_made}
+use Rattle.fit_partials.specs.Variables.{variables_of}
 use Rattle.fit_partials.proofs.steps.Goals as goal
 
 pub loop-k-init : goal.loop-k-init
-loop-k-init c = (omega arith, empty refl)
+loop-k-init c = empty refl
 
 pub loop-k-preserved : goal.loop-k-preserved
-loop-k-preserved c = (omega arith, filled c.loop-k.invariant.1 (omega arith) c.step-v.ensures)
+loop-k-preserved c =
+    filled c.loop-k.invariant c.loop-k-test.true
+    (step_made dual (variables_of c.args.q.now) c.loop-k.k c.point.ensures c.point-in-loop-k.ensures c.step.ensures)
 
 pub returns : goal.returns
-returns c = let l = c.loop-k in let e : l.k ≡ c.args.n - 1 = omega arith in rw e at l.invariant.1
+returns c = full c.loop-k.invariant (omega arith)

@@ -2,7 +2,7 @@
 use mathlib.Core.Path.{◌≡◌, refl}
 use Prim.Native.Nat.{◌+◌}
 use native.Mathlib.Omega.{arith}
-use Rattle.plane_partials.specs.View.{view_d}
+use Rattle.plane.specs.View.{view}
 use Rattle.fit_partials.specs.Stored.{side_of}
 use Rattle.fit_partials.proofs.Laid.{room_part, stored_as, stored_join}
 use Rattle.fit_partials.proofs.store_sides.Goals as goal
@@ -25,6 +25,6 @@ store-y-requires c =
 pub returns : goal.returns
 returns c =
     let a = c.args in
-    let side = side_of (view_d a.b) in
-    stored_join a.c a.at 1 1 side (λ j. a.b.y) (stored_as a.c a.at 1 _ side (λ j h. let e : j ≡ 0 = omega arith in rw e refl) c.store-x.ensures) c.store-y.ensures
-    (λ j h. let e : 1 + j ≡ 1 = omega arith in rw e refl) c.both.ensures
+    let side = side_of (view a.b.now) in
+    stored_join a.c a.at 1 1 side (λ j. a.b.now.y) (stored_as a.c a.at 1 _ side (λ j h. let e : j ≡ 0 = omega arith in rw e refl) c.store-x.ensures) c.store-y.ensures
+    (λ j h. let e : 1 + j ≡ 1 = omega arith in rw e refl) refl

@@ -1,6 +1,5 @@
 -- `fit_partials::values` meets its contract: a turn stores one value.
-use native.Mathlib.Omega.{arith}
-use mathlib.Core.Path.{refl}
+use Rattle.std.proofs.Common.{refl, arith}
 use Rattle.meaning.proofs.Filling.{empty, filled, full}
 use Rattle.fit_partials.proofs.values.Goals as goal
 

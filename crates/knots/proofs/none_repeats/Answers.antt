@@ -1,22 +1,17 @@
--- `knots::none_repeats` meets its contract: while the flag stands, each knot passed differs from the third after it.
-use Prim.Native.Nat.{◌-◌}
-use native.Mathlib.Omega.{arith}
-use borrow.Author.Tests.{not-true}
+-- `knots::none_repeats` meets its contract.
+use Rattle.std.proofs.lemmas.Iterator.{YieldsList-from_slice, YieldsList-from_zip}
+use Rattle.std.proofs.lemmas.Iterator.Consumers.{fold_from_yields_List}
+use Rattle.std.proofs.Common.{rules, tests, true, ◌-◌, length}
+use mathlib.Core.Path.{◌∙◌}
+use mathlib.Core.Bool.{◌&&◌}
+use lib.ListN.{take, drop}
 use lib.Ieee.{ne}
-use Rattle.meaning.proofs.Searching.{nowhere_yet, nowhere_more}
-use Rattle.meaning.proofs.Tests.{and_left, and_right}
-use Rattle.knots.specs.Repeat.{repeats}
+use Rattle.knots.proofs.Passes.{told_repeats}
 use Rattle.knots.proofs.none_repeats.Goals as goal
 
-pub loop-j-init : goal.loop-j-init
-loop-j-init c = (omega arith, omega arith, λ e. nowhere_yet _ 1)
-
-pub loop-j-preserved : goal.loop-j-preserved
-unfolding ne
-loop-j-preserved c =
-    let l = c.loop-j in
-    let ks = c.args.knots.now in
-    (omega arith, omega arith, λ e. nowhere_more (repeats ks) 1 l.j (l.invariant.2 (and_left l.fine _ e)) (not-true _ (and_right l.fine _ e)))
-
 pub returns : goal.returns
-returns c = λ e j g l. c.loop-j.invariant.2 e j g (omega arith)
+returns c =
+    let ks = c.args.knots.now in
+    let n = c.args.n in
+    fold_from_yields_List _ (λ b p. b && ne p.0 p.1) true _ c.fold.ensures.ran (YieldsList-from_zip (YieldsList-from_slice (take (n - 1) (drop 1 ks)) (cc)) (YieldsList-from_slice (take (length ks - 4) (drop 4 ks)) (cc))) (λ a x b q k. search (rules, tests))
+    ∙ told_repeats ks n c.requires.fact_1 c.requires.fact_2

@@ -1,27 +1,14 @@
--- `outcome::all_finite` meets its contract: while the flag stands, each number passed is finite.
-use mathlib.Core.Path.{sym, ap, ◌∙◌}
-use mathlib.Core.Bool.{not}
-use Prim.Native.Nat.{◌-◌}
-use native.Mathlib.Omega.{arith}
+-- `outcome::all_finite` meets its contract: the pass is the fold of its test.
+use Rattle.std.proofs.Common.{rules, tests, true}
+use Rattle.std.proofs.lemmas.Iterator.{YieldsList-from_slice}
+use Rattle.std.proofs.lemmas.Iterator.Consumers.{fold_from_yields_List}
+use mathlib.Core.Path.{◌∙◌}
+use mathlib.Core.Bool.{◌&&◌}
 use lib.Ieee.Scale.{finite}
-use Rattle.meaning.specs.Scalar.{plain}
-use Rattle.meaning.specs.Table.{at1}
-use Rattle.meaning.proofs.Searching.{nowhere_yet, nowhere_more}
-use Rattle.meaning.proofs.Tests.{and_left, and_right}
+use Rattle.meaning.proofs.Searching.{kept_all}
 use Rattle.outcome.proofs.all_finite.Goals as goal
 
-pub loop-i-init : goal.loop-i-init
-loop-i-init c = (omega arith, λ e. nowhere_yet _ 0)
-
-pub loop-i-preserved : goal.loop-i-preserved
-loop-i-preserved c =
-    let l = c.loop-i in
-    let a = c.args in (
-      omega arith,
-      λ e.
-          nowhere_more (λ j. not (finite (at1 plain a.a.now j))) 0 l.i (l.invariant.1 (and_left l.fine c.is_finite-fine.result e))
-          (ap not (sym c.is_finite-fine.ensures ∙ and_right l.fine c.is_finite-fine.result e)),
-    )
-
 pub returns : goal.returns
-returns c = λ e j g l. c.loop-i.invariant.1 e j g (omega arith)
+returns c =
+    fold_from_yields_List _ (λ f x. f && finite x) true _ c.fold.ensures.ran (YieldsList-from_slice c.args.a.now (cc)) (λ a x b q k. search (rules, tests))
+    ∙ kept_all (λ x. finite x) c.args.a.now true

@@ -1,23 +1,16 @@
--- `outcome::seek_wild` meets its contract: each number passed is finite, and past the end of the list there is none.
-use native.Mathlib.Omega.{arith}
-use mathlib.Core.Path.{◌∙◌, sym, ap}
+-- `outcome::seek_wild` meets its contract: each number before the position is finite, and the one there is not.
+use Rattle.std.proofs.Common.{rules, tests, ◌≡◌, true, false}
+use Rattle.std.proofs.lemmas.Iterator.{YieldsList-from_slice, IsFirst-from_position}
+use mathlib.Core.Path.{◌∙◌}
 use mathlib.Core.Bool.{not}
-use Prim.Native.Nat.{◌-◌}
-use Rattle.meaning.proofs.Searching.{passed, onward, found, ended}
-use Rattle.outcome.proofs.Wild.{past}
+use lib.Ieee.{nan}
+use lib.Ieee.Scale.{finite}
+use Rattle.meaning.proofs.Searching.{position_seeks}
 use Rattle.outcome.proofs.seek_wild.Goals as goal
 
-pub loop-i-init : goal.loop-i-init
-loop-i-init c = passed (omega arith)
-
-pub returns-then-i-a : goal.returns-then-i-a
-returns-then-i-a c = found c.loop-i.invariant (omega arith) (past c.args.a.now c.loop-i.i (omega arith))
-
-pub returns-then-not-is_finite : goal.returns-then-not-is_finite
-returns-then-not-is_finite c = found c.loop-i.invariant (omega arith) (ap not (sym c.is_finite.ensures) ∙ (ap not c.if-not-is_finite.true))
-
-pub loop-i-preserved : goal.loop-i-preserved
-loop-i-preserved c = onward c.loop-i.invariant (omega arith) (ap not (sym c.is_finite.ensures) ∙ (ap not c.if-not-is_finite.false))
-
 pub returns : goal.returns
-returns c = ended c.loop-i.invariant (omega arith)
+returns c =
+    c.unwrap_or.ensures
+    ∙ position_seeks (λ x. not (finite x)) nan c.args.a.now c.position.result
+    (IsFirst-from_position _ _ _ (λ x. not (finite x) ≡ true) (λ x. not (finite x) ≡ false) c.position.ensures.ran (YieldsList-from_slice c.args.a.now (cc))
+    (λ x q k. search (rules, tests)) (λ x q k. search (rules, tests)))

@@ -1,26 +1,27 @@
--- `point::point_tangent` meets its contract: the rules of the record, then the answer; the promises follow from it.
-use mathlib.Core.Path.{sym, ◌∙◌, subst}
+-- `point::point_tangent` meets its contract: the rules of the curve, then the answer; the promises follow from it.
+use mathlib.Core.Path.{sym, subst}
 use lib.Dec.{T}
-use Rattle.refusal.proofs.Rows.{number_of}
-use Rattle.hull.proofs.Given.{Doubles}
-use Rattle.curve.specs.Record.{by_record}
-use Rattle.curve.proofs.Recheck.{record_sound}
+use Rattle.refusal.proofs.Rows.{ok_passed}
+use Rattle.hull.proofs.Given.{with_parameter}
+use Rattle.offer.proofs.Handed.{rules_refused, is_refused}
 use Rattle.point.proofs.Answered.{tangent_refused, tangent_answered}
-use Rattle.point.proofs.Promised.{tangent_promised}
-use Rattle.point.proofs.Typed.{typed}
+use Rattle.point.proofs.Promised.{tangent_promised, refused_tangent}
 use Rattle.point.proofs.point_tangent.Goals as goal
-use Rattle.point.proofs.point_tangent.Goals.{Start}
 
-doubles : (s : Start) → Doubles (by_record s.args.c).shape s.args.t
-doubles s = typed s.args.c _ s.well_formed.0 s.args.t (subst T (sym s.well_formed.1.0.1) tt)
-
-pub returns-then-r-ne0 : goal.returns-then-r-ne0
-returns-then-r-ne0 c =
-    tangent_promised _ (record_sound _) _ (doubles (goal.at.returns-then-r-ne0 c).Start) c.args.out.now
-    (tangent_refused (by_record c.args.c) c.args.t c.args.out.now c.check-r.ensures c.if-r-ne0.true)
+pub returns-in_err-check : goal.returns-in_err-check
+returns-in_err-check g c =
+    let a = c.args in
+    let who = g.C.Offer.offered a.curve.now in
+    let was = c.in_err-check.was in
+    let rules = rules_refused was _ c.from_residual.ensures _ c.check.ensures.rules in
+    let refused = is_refused was _ c.from_residual.ensures in
+    refused_tangent who a.t rules refused a.out.now (tangent_refused who a.t a.out.now rules refused)
 
 pub returns : goal.returns
-returns c =
-    tangent_promised _ (record_sound _) _ (doubles (goal.at.returns c).Start) c.args.out.now
-    (tangent_answered (by_record c.args.c) (record_sound _) (number_of (sym c.check-r.ensures) ∙ c.if-r-ne0.false) c.args.t c.args.out.now
-    c.orders-room.ensures c.answer_tangent.ensures)
+returns g c =
+    let a = c.args in
+    let who = g.C.Offer.offered a.curve.now in
+    let sound = g.met.C.Offer.sound a.curve.now in
+    let passed = ok_passed _ c.check.ensures.rules c.in_ok-check.was in
+    tangent_promised who sound a.t (with_parameter (c.check.ensures.doubles passed) (subst T (sym c.well_formed.1.0.1) tt)) a.out.now
+    (tangent_answered who sound passed a.t a.out.now (c.orders.ensures passed) c.answer_tangent.ensures)

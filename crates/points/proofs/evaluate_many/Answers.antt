@@ -1,40 +1,48 @@
--- `points::evaluate_many` meets its contract: the rules of the record, those of the call, then each parameter; the promises follow from it.
-use mathlib.Core.Path.{sym, ◌∙◌}
+-- `points::evaluate_many` meets its contract: the rules of the curve, those of the call, then each parameter; the promises follow from it.
+use mathlib.Core.Path.{refl, sym, ap, ◌∙◌}
 use lib.ListN.{length}
-use Rattle.meaning.specs.Scalar.{plain}
-use Rattle.meaning.specs.Table.{at1}
-use Rattle.refusal.proofs.Rows.{number_of}
-use Rattle.curve.specs.Record.{by_record}
-use Rattle.curve.proofs.Recheck.{record_sound}
-use Rattle.point.proofs.Typed.{typed}
+use Rattle.refusal.specs.Refusals.{verdict}
+use Rattle.refusal.proofs.Rows.{ok_passed}
+use Rattle.hull.proofs.Given.{with_parameter}
+use Rattle.offer.proofs.Handed.{rules_refused, is_refused}
 use Rattle.points.proofs.Answers.{call_fits, points_refused, call_refused, points-answered, refused_points, points_promised}
 use Rattle.points.proofs.evaluate_many.Goals as goal
 
-pub returns-then-r-ne0 : goal.returns-then-r-ne0
-returns-then-r-ne0 c =
+pub returns-in_err-check : goal.returns-in_err-check
+returns-in_err-check g c =
     let a = c.args in
-    let who = by_record a.c in
-    refused_points who a.ts.now a.order a.out.now a.refusals.now c.if-r-ne0.true
-    (points_refused who a.ts.now a.order a.out.now a.refusals.now c.check-r.ensures c.if-r-ne0.true)
+    let who = g.C.Offer.offered a.curve.now in
+    let was = c.in_err-check.was in
+    let refused = is_refused was _ c.from_residual.ensures in
+    refused_points who a.ts.now a.order a.out.now a.refusals.now refused
+    (points_refused who a.ts.now a.order a.out.now a.refusals.now (rules_refused was _ c.from_residual.ensures _ c.check.ensures.rules) refused)
 
-pub returns-then-q-ne0 : goal.returns-then-q-ne0
-returns-then-q-ne0 c =
+pub returns-in_err-check_call : goal.returns-in_err-check_call
+returns-in_err-check_call g c =
     let a = c.args in
-    let who = by_record a.c in
-    refused_points who a.ts.now a.order a.out.now a.refusals.now c.if-q-ne0.true
-    (call_refused who a.ts.now a.order a.out.now a.refusals.now (record_sound _)
-    (number_of (sym c.check-r.ensures) ∙ c.if-r-ne0.false) c.check_call-q.ensures c.if-q-ne0.true)
+    let who = g.C.Offer.offered a.curve.now in
+    let was = c.in_err-check_call.was in
+    let told = c.from_residual-in_err-check_call.ensures in
+    let refused = is_refused was _ told in
+    refused_points who a.ts.now a.order a.out.now a.refusals.now refused
+    (call_refused who a.ts.now a.order a.out.now a.refusals.now (g.met.C.Offer.sound a.curve.now)
+    (ok_passed _ c.check.ensures.rules c.in_ok-check.was) (rules_refused was _ told _ c.check_call.ensures) refused)
 
-pub answer_each-requires : goal.answer_each-requires
-answer_each-requires c =
+pub answer_each-requires-clause-passed : goal.answer_each-requires-clause-passed
+answer_each-requires-clause-passed g c = ok_passed _ c.check.ensures.rules c.in_ok-check.was
+
+pub answer_each-requires-clause-fits : goal.answer_each-requires-clause-fits
+answer_each-requires-clause-fits g c =
     let a = c.args in
-    call_fits (length a.ts.now) a.order a.out.now a.refusals.now (number_of (sym c.check_call-q.ensures) ∙ c.if-q-ne0.false)
+    call_fits (length a.ts.now) a.order a.out.now a.refusals.now (ok_passed _ c.check_call.ensures c.in_ok-check_call.was)
 
 pub returns : goal.returns
-returns c =
+returns g c =
     let a = c.args in
-    let who = by_record a.c in
-    points_promised who a.ts.now a.order a.out.now a.refusals.now (record_sound _)
-    (points-answered who a.ts.now a.order a.out.now a.refusals.now (record_sound _)
-    (number_of (sym c.check-r.ensures) ∙ c.if-r-ne0.false) c.check_call-q.ensures c.if-q-ne0.false c.answer_each.ensures)
-    (λ j h. typed a.c _ c.well_formed.0 (at1 plain a.ts.now j) (c.type_inv.ts j))
+    let who = g.C.Offer.offered a.curve.now in
+    let sound = g.met.C.Offer.sound a.curve.now in
+    let passed = ok_passed _ c.check.ensures.rules c.in_ok-check.was in
+    let call = sym (ap verdict c.in_ok-check_call.was) ∙ c.check_call.ensures in
+    points_promised who a.ts.now a.order a.out.now a.refusals.now sound
+    (points-answered who a.ts.now a.order a.out.now a.refusals.now sound passed call refl c.answer_each.ensures)
+    (λ j h. with_parameter (c.check.ensures.doubles passed) (c.type_inv.ts j))

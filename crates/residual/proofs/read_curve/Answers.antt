@@ -1,4 +1,5 @@
 -- `residual::read_curve` meets its contract: by the form.
+use Rattle.knots.specs.Given.{given, given_list}
 use Rattle.residual.proofs.Forms.{control_ready, fit_ready, control-judged, control-doubles, control-counts}
 use Rattle.residual.proofs.read_curve.Goals as goal
 
@@ -12,8 +13,7 @@ pub returns-in-Control : goal.returns-in-Control
 returns-in-Control c =
     let a = c.args in
     let e = c.in-Control.is in record {
-      answer = control-judged a.form a.q.now a.given a.knots.now a.t c.control_piece.result e
-          c.control_piece.ensures.read c.control_piece.ensures.fine_value;
+      answer = control-judged a.form a.q.now (given a.knots) (given_list (λ k. k.now) a.knots) a.t c.control_piece.result e c.control_piece.ensures;
       doubles = control-doubles a.form a.q.now a.c a.work.now e;
       counts = control-counts a.form a.q.now a.counts.now e;
     }

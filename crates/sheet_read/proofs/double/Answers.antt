@@ -6,12 +6,12 @@ use Rattle.sheet_read.specs.Number.{double_at}
 use Rattle.sheet_read.proofs.Numerals.{nothing_past}
 use Rattle.sheet_read.proofs.double.Goals as goal
 
-pub returns-then-s-at : goal.returns-then-s-at
+pub returns-else-at-s : goal.returns-else-at-s
 unfolding double_at
-returns-then-s-at c =
+returns-else-at-s c =
     let a = c.args in
-    ap (λ (b : ℕ). of_bits binary64 b) (sym (nothing_past 16 a.s.now a.at c.if-s-at.true 16))
+    ap (λ (b : ℕ). of_bits binary64 b) (sym (nothing_past 16 a.s.now a.at c.if-at-s.false 16))
 
-pub returns : goal.returns
+pub returns-then-at-s : goal.returns-then-at-s
 unfolding double_at
-returns c = c.of_bits.ensures ∙ ap (λ (b : ℕ). of_bits binary64 b) c.number.ensures
+returns-then-at-s c = c.f64_from_bits_with_nan.ensures ∙ ap (λ (b : ℕ). of_bits binary64 b) c.number.ensures

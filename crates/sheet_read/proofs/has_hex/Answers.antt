@@ -1,27 +1,24 @@
 -- `sheet_read::has_hex` meets its contract: each byte passed is a digit.
-use native.Mathlib.Omega.{arith}
-use mathlib.Core.Path.{sym, ap, ◌∙◌}
-use borrow.Author.Tests.{not-true, not-false}
+use Rattle.std.proofs.Common.{◌≡◌, ◌∙◌, ◌+◌, refl, rules, tests}
+use Rattle.std.proofs.lemmas.Iterator.{YieldsList-from_range}
+use Rattle.std.proofs.lemmas.Iterator.Search.{all_from_yields_List}
+use native.Mathlib.Nat.{sub-zero}
+use Rattle.meaning.specs.Search.{every}
+use Rattle.sheet_read.specs.Text.{byte_at}
 use Rattle.sheet_read.specs.Number.{is_hex}
-use Rattle.meaning.proofs.Every.{start, on, fails, holds}
-use mathlib.Core.Bool.{not}
+use Rattle.sheet_read.proofs.Ranges.{every_listed}
 use Rattle.sheet_read.proofs.has_hex.Goals as goal
+use Rattle.sheet_read.proofs.has_hex.Goals.{After-all}
 
-pub loop-i-init : goal.loop-i-init
-loop-i-init c = start
+tested : (c : After-all) → c.all.result ≡ every c.args.n (λ i. is_hex (byte_at c.args.s.now (c.args.at + i)))
+tested c =
+    let a = c.args in
+    all_from_yields_List (λ i. is_hex (byte_at a.s.now (a.at + i))) _ _ _ c.all.ensures.ran (YieldsList-from_range 0 a.n a.n refl (sub-zero _))
+    (λ x b q k. search (rules, tests))
+    ∙ every_listed _ a.n
 
-pub returns-then-not-is_hex : goal.returns-then-not-is_hex
-returns-then-not-is_hex c =
-    let l = c.loop-i in
-    let h = fails l.invariant (omega arith) (ap is_hex (sym c.byte.ensures) ∙ sym c.is_hex.ensures ∙ not-true _ (ap not c.if-not-is_hex.true)) in
-    rw (← h)
+pub returns-then-all : goal.returns-then-all
+returns-then-all c = rw (← tested (goal.at.returns-then-all c).After-all, c.if-all.true, c.byte.ensures)
 
-pub loop-i-preserved : goal.loop-i-preserved
-loop-i-preserved c =
-    let l = c.loop-i in
-    on l.invariant (omega arith) (ap is_hex (sym c.byte.ensures) ∙ sym c.is_hex.ensures ∙ not-false _ (ap not c.if-not-is_hex.false))
-
-pub returns : goal.returns
-returns c =
-    let h = holds c.loop-i.invariant (omega arith) in
-    rw (← h, c.byte-2.ensures)
+pub returns-else-all : goal.returns-else-all
+returns-else-all c = rw (← tested (goal.at.returns-else-all c).After-all, c.if-all.false)

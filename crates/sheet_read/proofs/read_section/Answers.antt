@@ -1,65 +1,35 @@
 -- `sheet_read::read_section` meets its contract: the tests are those of `section_at`, in its order.
-use mathlib.Core.Path.{sym, ◌∙◌}
-use Prim.Native.Nat.{◌*◌, ◌≤◌}
+use Rattle.std.proofs.Common.{◌*◌, ◌≤◌, arith}
 use native.Mathlib.Nat.{le_trans}
-use native.Mathlib.Omega.{arith}
-use borrow.Author.Tests.{not-true, not-false}
-use Rattle.sheet_read.proofs.Numerals.{few_digits}
-use Rattle.sheet_read.proofs.Sections.{no_word, no_count, no_numbers, whole, few-numbers}
-use mathlib.Core.Path.{ap}
-use mathlib.Core.Bool.{not}
+use Rattle.sheet_read.proofs.Reading.{word_missed, count_missed, few, near, numbers_missed, section_read}
 use Rattle.sheet_read.proofs.read_section.Goals as goal
-use Rattle.sheet_read.proofs.read_section.Goals.{After-number-count}
+use Rattle.sheet_read.proofs.read_section.Goals.{In_ok-count}
 
-few : (c : After-number-count) → c.digits-d.result ≤ 4
-few c = rw c.digits-d.ensures (few_digits _ _)
-
--- the numbers of the section are few
-small : (c : After-number-count) → c.args.per * c.number-count.result ≤ 1024
+small : (c : In_ok-count) → c.args.per * c.in_ok-count.count ≤ 1024
 small c =
-    le_trans
-    (few-numbers _ _ c.args.most c.args.per _ (sym c.has_word.ensures ∙ not-false _ (ap not c.if-not-has_word.false))
-    (sym c.has_count.ensures ∙ not-false _ (ap not c.if-not-has_count.false)) c.digits-d.ensures c.number-count.ensures)
-    c.requires.fact_1.1
+    let a = c.args in
+    le_trans (few a.s.now a.w.now a.most a.per a.at c.in_ok-read_word.ensures c.in_ok-count.ensures) c.requires.fact_1.1
 
-pub returns-then-not-has_word : goal.returns-then-not-has_word
-returns-then-not-has_word c = c.missing.ensures ∙ no_word _ _ _ _ _ (sym c.has_word.ensures ∙ not-true _ (ap not c.if-not-has_word.true))
+pub returns-in_err-read_word : goal.returns-in_err-read_word
+returns-in_err-read_word c = rw c.from_residual.ensures (word_missed _ _ _ _ _ c.in_err-read_word.ensures)
 
-pub returns-then-not-has_count : goal.returns-then-not-has_count
-returns-then-not-has_count c =
-    c.missing-then-not-has_count.ensures
-    ∙ no_count _ _ _ _ _ (sym c.has_word.ensures ∙ not-false _ (ap not c.if-not-has_word.false)) (sym c.has_count.ensures ∙ not-true _ (ap not c.if-not-has_count.true))
+pub returns-in_err-count : goal.returns-in_err-count
+returns-in_err-count c = rw c.from_residual-in_err-count.ensures (count_missed _ _ _ _ _ c.in_ok-read_word.ensures c.in_err-count.ensures)
 
-pub number-count-requires : goal.number-count-requires
-number-count-requires c =
-    let f : c.digits-d.result ≤ 4 = rw c.digits-d.ensures (few_digits _ _) in
-    omega (arith, f)
+pub overflow_mul-per : goal.overflow_mul-per
+overflow_mul-per c = omega (arith, small c)
 
-pub overflow_add-start : goal.overflow_add-start
-overflow_add-start c = omega (arith, few c)
+pub read_numbers-requires-clause-fact_2 : goal.read_numbers-requires-clause-fact_2
+read_numbers-requires-clause-fact_2 c = small c
 
-pub overflow_add-start-2 : goal.overflow_add-start-2
-overflow_add-start-2 c = omega (arith, few c)
+pub read_numbers-requires-clause-fact_3 : goal.read_numbers-requires-clause-fact_3
+read_numbers-requires-clause-fact_3 c =
+    let a = c.args in
+    omega (arith, near a.s.now a.w.now a.most a.per a.at c.in_ok-read_word.ensures c.in_ok-count.ensures)
 
-pub overflow_mul-n : goal.overflow_mul-n
-overflow_mul-n c = omega (arith, small c)
-
-pub has_numbers-requires : goal.has_numbers-requires
-has_numbers-requires c = omega (arith, few c, small c)
-
-pub returns-then-not-has_numbers : goal.returns-then-not-has_numbers
-returns-then-not-has_numbers c =
-    c.missing-then-not-has_numbers.ensures
-    ∙ no_numbers _ _ _ _ _ (sym c.has_word.ensures ∙ not-false _ (ap not c.if-not-has_word.false)) (sym c.has_count.ensures ∙ not-false _ (ap not c.if-not-has_count.false))
-    c.digits-d.ensures c.number-count.ensures (sym c.has_numbers.ensures ∙ not-true _ (ap not c.if-not-has_numbers.true))
-
-pub overflow_mul-result : goal.overflow_mul-result
-overflow_mul-result c = omega (arith, small (goal.at.overflow_mul-result c).After-number-count)
-
-pub overflow_add-result : goal.overflow_add-result
-overflow_add-result c = omega (arith, few (goal.at.overflow_add-result c).After-number-count, small (goal.at.overflow_add-result c).After-number-count)
+pub returns-in_err-next : goal.returns-in_err-next
+returns-in_err-next c =
+    rw c.from_residual-in_err-next.ensures (numbers_missed _ _ _ _ _ c.in_ok-read_word.ensures c.in_ok-count.ensures c.in_err-next.ensures)
 
 pub returns : goal.returns
-returns c =
-    whole _ _ _ _ _ (sym c.has_word.ensures ∙ not-false _ (ap not c.if-not-has_word.false)) (sym c.has_count.ensures ∙ not-false _ (ap not c.if-not-has_count.false))
-    c.digits-d.ensures c.number-count.ensures (sym c.has_numbers.ensures ∙ not-false _ (ap not c.if-not-has_numbers.false))
+returns c = section_read _ _ _ _ _ c.in_ok-read_word.ensures c.in_ok-count.ensures c.in_ok-next.ensures

@@ -1,34 +1,29 @@
 -- `sheet_rooms::reply` meets its contract: its three rooms are long enough for every input.
 use mathlib.Core.Path.{◌≡◌, sym, ap, ◌∙◌}
-use Prim.Native.Nat.{min, ◌≤◌}
-use native.Mathlib.Nat.{min-le_right}
-use native.Mathlib.Omega.{arith}
+use Prim.Native.Nat.{min}
 use lib.ListN.{length, length-replicate}
-use lib.Seq.{length-take-le}
-use Rattle.sheet_rooms.proofs.Rooms.{replied, promised, replies, counted}
+use native.Mathlib.Omega.{arith}
+use Rattle.sheet_rooms.proofs.Rooms.{replied, promised, replies}
 use Rattle.sheet_rooms.proofs.reply.Goals as goal
-use Rattle.sheet_rooms.proofs.reply.Goals.{After-least-k}
+use Rattle.sheet_rooms.proofs.reply.Goals.{After-min}
 
--- what is taken lies in the room
-inside : (c : After-least-k) → c.least-k.result ≤ length c.args.room
-inside c = omega (arith, c.least-k.ensures, min-le_right c.args.n 20878)
+long : (c : After-min) → length c.args.room.now ≡ 20878
+long c = omega arith
 
-pub slice_bounds-room-end : goal.slice_bounds-room-end
-slice_bounds-room-end c = inside c
+taken : (c : After-min) → c.min.result ≡ min c.args.n (length c.args.room.now)
+taken c = c.min.ensures ∙ ap (min c.args.n) (sym (long c))
 
-pub slice_bounds-answer-end : goal.slice_bounds-answer-end
-slice_bounds-answer-end c = sym (length-take-le _ _ (inside (goal.at.slice_bounds-answer-end c).After-least-k))
+pub returns-clause-answer : goal.returns-clause-answer
+returns-clause-answer c =
+    replied c.args.room.now c.args.n (taken (goal.at.returns-clause-answer c).After-min) c.answer-count.ensures.answer (simp length-replicate (omega arith))
 
-pub returns : goal.returns
-returns c =
-    let room = c.args.room in
-    let n = c.args.n in
-    let long : length room ≡ 20878 = omega arith in
-    let taken : c.least-k.result ≡ min n (length room) = c.least-k.ensures ∙ ap (min n) (sym long) in
+pub returns-clause-whole : goal.returns-clause-whole
+returns-clause-whole c =
+    let h = long (goal.at.returns-clause-whole c).After-min in
+    replies c.args.room.now c.args.n (taken (goal.at.returns-clause-whole c).After-min) c.answer-count.ensures.answer
+    (simp length-replicate (omega arith)) (omega (arith, h))
+
+pub returns-clause-hull : goal.returns-clause-hull
+returns-clause-hull c =
     let e = c.answer-count.ensures in
-    record {
-      answer = replied room n taken e.answer (simp length-replicate (omega arith));
-      whole = replies room n taken e.answer (simp length-replicate (omega arith)) (omega arith);
-      hull = promised room n taken e.answer (simp length-replicate (omega arith)) e.hull;
-      count = counted room n taken e.answer (simp length-replicate (omega arith));
-    }
+    promised c.args.room.now c.args.n (taken (goal.at.returns-clause-hull c).After-min) e.answer (simp length-replicate (omega arith)) e.hull

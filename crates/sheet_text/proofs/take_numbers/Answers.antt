@@ -1,18 +1,16 @@
 -- `sheet_text::take_numbers` meets its contract: a turn puts in one number.
-use mathlib.Core.Path.{◌≡◌, refl}
+use mathlib.Core.Path.{refl}
 use native.Mathlib.Omega.{arith}
-use Rattle.meaning.proofs.Filling.{empty, filled, front}
+use Rattle.meaning.proofs.Filling.{empty, filled, full}
 use Rattle.sheet_read.specs.Grammar.{numbers_at}
 use Rattle.sheet_text.proofs.take_numbers.Goals as goal
 
 pub loop-j-init : goal.loop-j-init
-loop-j-init c = (omega arith, empty refl)
+loop-j-init c = empty refl
 
 pub loop-j-preserved : goal.loop-j-preserved
-loop-j-preserved c = (omega arith, filled c.loop-j.invariant.1 (omega arith) c.double.ensures)
+loop-j-preserved c = filled c.loop-j.invariant (omega arith) c.double.ensures
 
 pub returns : goal.returns
 unfolding numbers_at
-returns c =
-    let e : c.loop-j.j ≡ c.args.n = omega arith in
-    rw e at (front c.loop-j.invariant.1)
+returns c = full c.loop-j.invariant (omega arith)

@@ -1,5 +1,4 @@
 -- `sheet_text::take_numbers` meets its contract: a turn puts in one number.
-use Prim.Native.Nat.{◌≤◌}
 use lib.ListN.{length}
 use lib.Ieee.{nan}
 use Rattle.meaning.proofs.Filling.{Filled}
@@ -8,4 +7,4 @@ use Rattle.sheet_read.specs.Grammar.{number_place}
 use Rattle.sheet_text.proofs.take_numbers.Given as goal
 
 abbrev pub invariant-loop-j : goal.invariant-loop-j
-invariant-loop-j l = (l.j ≤ l.n) × Filled (λ k. double_at l.s (number_place l.start k)) nan (length l.initial.out) l.j l.out
+invariant-loop-j l = Filled (λ k. double_at l.s (number_place l.start k)) nan (length l.initial.out) l.j l.out

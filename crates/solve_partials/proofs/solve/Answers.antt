@@ -2,7 +2,7 @@
 use mathlib.Core.Path.{sym, ◌∙◌}
 use borrow.Author.Tests.{not-true, not-false}
 use Rattle.solve_partials.specs.Outcome.{solution_in, doubles_left, counts_left}
-use Rattle.solve_partials.proofs.Outcomes.{fitting}
+use Rattle.solve_partials.proofs.Outcomes.{fitting, none_is}
 use mathlib.Core.Path.{ap}
 use mathlib.Core.Bool.{not}
 use Rattle.solve_partials.proofs.solve.Goals as goal
@@ -12,7 +12,7 @@ unfolding solution_in doubles_left counts_left
 returns-then-not-has_room c =
     let no = sym c.has_room.ensures ∙ not-true _ (ap not c.if-not-has_room.true) in
     record {
-      answers = rw no c.unsolved.ensures;
+      answers = rw no (none_is c.args.at);
       doubles = rw no;
       counts = rw no;
     }

@@ -8,8 +8,12 @@ use lib.ListN.{length, take, drop, replicate}
 use lib.Seq.{length-take-le}
 use lib.Ieee.{Float}
 use Rattle.meaning.specs.Scalar.{zero64}
-use Rattle.solve_partials.specs.Outcome.{room_of, rows_in}
-use Rattle.solve_partials.proofs.Outcomes.{held_front, front_room, front_rows, front_shaped}
+use Rattle.partials.specs.declared.Dv.{Dv}
+use Rattle.partials.specs.Dual.{dual}
+use Rattle.solve.specs.Rows.{rows_of}
+use Rattle.solve.specs.Outcome.{solution_of}
+use Rattle.solve_partials.specs.Outcome.{room_of, rows_in, four_of}
+use Rattle.solve_partials.proofs.Outcomes.{held_front, front_room}
 use Rattle.solve_partials.proofs.solve_front.Goals as goal
 use Rattle.solve_partials.proofs.solve_front.Goals.{Start}
 
@@ -33,6 +37,7 @@ solve_lent-requires c =
     (front_room a.c (room_of a.m) a.w.now a.ns.now c.requires.2 c.requires.3 c.requires.1 n, counts-long (goal.at.solve_lent-requires c).Start, c.requires.0)
 
 pub returns : goal.returns
+unfolding rows_in
 returns c =
     let call = c.solve_lent.ensures in
     let a = c.args in
@@ -40,7 +45,8 @@ returns c =
     let w = a.w.now in
     let ns = a.ns.now in
     let e = room_of m * (a.c + 1) in record {
-      answers = call.answers (rows_in m a.c w ns) _ (held_front a.c (room_of m) w ns c.requires.2 c.requires.3 ∙ front_rows m a.c w ns) (front_shaped m a.c w ns);
+      answers = call.answers ∙ ap (λ (l : List Dv). four_of a.at (solution_of dual m (rows_of m (m + 2) l)))
+          (held_front a.c (room_of m) w ns c.requires.2 c.requires.3);
       doubles = ap (λ (t : List Float). t ++ drop e w) (call.doubles ∙ ap (λ (n : ℕ). replicate n zero64) (doubles-long (goal.at.returns c).Start));
       counts = ap (λ (t : List ℕ). t ++ drop (room_of m) ns) (call.counts ∙ ap (λ (n : ℕ). replicate n 0) (counts-long (goal.at.returns c).Start));
     }

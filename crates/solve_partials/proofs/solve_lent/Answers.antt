@@ -1,87 +1,66 @@
--- `solve_partials::solve_lent` meets its contract: the answers are copied out before the slices are cleared.
-use Prim.Native.Nat.{ℕ, ◌+◌}
+-- `solve_partials::solve_lent` meets its contract: the rows that lie in the slices at first lie there in order, and are solved.
+use Prim.Native.Nat.{◌+◌, ◌*◌, ◌≤◌}
 use native.Mathlib.Omega.{arith}
-use mathlib.Core.Path.{◌≡◌, sym, ap, ◌∙◌, subst}
+use mathlib.Core.Path.{◌≡◌, ap, ◌∙◌}
+use mathlib.Core.Bool.{not}
 use mathlib.Core.List.{List}
-use lib.ListN.{length, replicate}
-use Rattle.meaning.specs.Scalar.{zero64}
+use borrow.Author.Tests.{not-true, not-false}
+use lib.ListN.{length}
 use Rattle.partials.specs.declared.Dv.{Dv}
 use Rattle.partials.specs.Dual.{dual}
-use Rattle.row_order.specs.Order.{Order}
-use Rattle.row_order.proofs.Orders.{in_order_lem}
-use Rattle.solve.specs.Rows.{flat, OfRows}
-use Rattle.solve.specs.Placed.{laid}
+use Rattle.solve.specs.Rows.{rows_of}
+use Rattle.solve.specs.Placed.{rows_by}
 use Rattle.solve.specs.Substitution.{solved}
 use Rattle.solve.specs.Stored.{solved_ok}
-use Rattle.solve.proofs.Placed.{laid_start}
-use Rattle.solve.proofs.Answers.{solved_shaped}
+use Rattle.solve.specs.Outcome.{column, zeros}
+use Rattle.solve.proofs.Flat.{rows_shaped_of}
+use Rattle.solve.proofs.By.{start_by}
 use Rattle.solve_partials.specs.Held.{held}
-use Rattle.solve_partials.proofs.Cells.{room-kept}
+use Rattle.solve_partials.specs.Outcome.{four}
+use Rattle.solve_partials.proofs.Cells.{held-long}
 use Rattle.solve_partials.proofs.Outcomes.{fine-four, none-four}
 use Rattle.solve_partials.proofs.solve_lent.Goals as goal
-use Rattle.solve_partials.proofs.solve_lent.Goals.{After-clear, After-clear_bytes, After-solve_rows-fine}
+use Rattle.solve_partials.proofs.solve_lent.Goals.{After-solve_rows-fine}
 
-pub solve_rows-fine-requires : goal.solve_rows-fine-requires
-solve_rows-fine-requires c =
-    (c.requires.0, c.requires.1, subst (Order c.args.m) (sym c.in_order-order.ensures) (in_order_lem c.args.m (omega (arith, c.requires.2))))
+abbrev values : After-solve_rows-fine → List Dv
+values k = held k.args.c k.args.w.now k.args.ns.now
 
-abbrev rows_in : After-solve_rows-fine → ℕ
-rows_in k = k.args.m
+abbrev rows_in : After-solve_rows-fine → List (List Dv)
+rows_in k = rows_of k.args.m (k.args.m + 2) (values k)
 
--- the slices and the order that the solve leaves
-abbrev held_of : After-solve_rows-fine → List Dv
-held_of k = held k.args.c k.solve_rows-fine.new.w k.solve_rows-fine.new.ns
+room : (k : After-solve_rows-fine) → k.args.m * (k.args.m + 2) ≤ length (values k)
+room k = omega (arith, held-long k.args.c k.args.w.now k.args.ns.now, k.requires.1)
 
-abbrev order-of : After-solve_rows-fine → List ℕ
-order-of k = k.solve_rows-fine.new.order
+few : (k : After-solve_rows-fine) → k.new-order.result.rows ≡ k.args.m
+few k = omega (arith, k.new-order.ensures.rows, k.requires.2)
 
--- the rows that lie in the slices at first lie there in order: what the solve makes of them
-solved-in : (k : After-solve_rows-fine) → let a = k.args in
-    OfRows a.m (a.m + 2) (held a.c a.w.now a.ns.now) (λ M rest.
-    (held_of k ≡ flat (laid a.m (order-of k) (solved dual a.m M)) rest) × (k.solve_rows-fine.result ≡ solved_ok dual a.m M))
-solved-in k M rest e sh =
-    let m = rows_in k in
-    let first = laid_start m M (omega (arith, k.requires.2)) sh.count ∙ ap (λ (l : List ℕ). laid m l M) (sym k.in_order-order.ensures) in
-    k.solve_rows-fine.ensures.becomes M rest (e ∙ ap (λ (N : List (List Dv)). flat N rest) first) sh
+begun : (k : After-solve_rows-fine) → let o = k.new-order.result in rows_by o.rows o.places (values k) ≡ rows_in k
+begun k = (λ t. rows_by (few k t) (k.new-order.ensures.places t) (values k)) ∙ start_by k.args.m (values k) (omega (arith, k.requires.2)) (room k)
 
-pub four_of-xs-requires : goal.four_of-xs-requires
-four_of-xs-requires c =
-    let p = c.requires in
-    (room-kept p.0 (omega arith) (omega arith), omega (arith, p.1), omega arith, c.solve_rows-fine.ensures.stays)
+many : (k : After-solve_rows-fine) → length (rows_in k) ≡ k.args.m
+many k = (rows_shaped_of k.args.m (k.args.m + 2) (values k) (room k)).count
 
-pub four_of-ys-requires : goal.four_of-ys-requires
-four_of-ys-requires c =
-    let p = c.requires in
-    (room-kept p.0 (omega arith) (omega arith), omega (arith, p.1), omega arith, c.solve_rows-fine.ensures.stays)
+-- what the solve makes of them, and its verdict
+solved-in : (k : After-solve_rows-fine) → let r = k.solve_rows-fine.new.rows in
+    rows_by r.order.rows r.order.places (held r.c r.w.now r.ns.now) ≡ solved dual k.args.m (rows_in k)
+solved-in k = k.solve_rows-fine.ensures.rows.0 ∙ (λ t. solved dual ((ap length (begun k) ∙ many k) t) (begun k t))
 
--- what the clearing leaves
-left-doubles : (c : After-clear) → c.clear.new.t ≡ replicate (length c.args.w.now) zero64
-left-doubles c =
-    let e : length c.solve_rows-fine.new.w ≡ length c.args.w.now = omega arith in
-    c.clear.ensures ∙ ap (λ (n : ℕ). replicate n zero64) e
+verdict : (k : After-solve_rows-fine) → k.solve_rows-fine.result ≡ solved_ok dual k.args.m (rows_in k)
+verdict k = k.solve_rows-fine.ensures.rows.1 ∙ (λ t. solved_ok dual ((ap length (begun k) ∙ many k) t) (begun k t))
 
-left-counts : (c : After-clear_bytes) → c.clear_bytes.new.t ≡ replicate (length c.args.ns.now) 0
-left-counts c =
-    let e : length c.solve_rows-fine.new.ns ≡ length c.args.ns.now = omega arith in
-    c.clear_bytes.ensures ∙ ap (λ (n : ℕ). replicate n 0) e
+still : (k : After-solve_rows-fine) → k.solve_rows-fine.new.rows.order.rows ≡ k.args.m
+still k = k.solve_rows-fine.ensures.same.4 ∙ few k
 
-pub returns-then-fine : goal.returns-then-fine
-returns-then-fine c =
-    let a = c.args in record {
-      answers = λ M rest e sh.
-          let one = solved-in (goal.at.returns-then-fine c).After-solve_rows-fine M rest e sh in
-          let shN = solved_shaped dual a.m (a.m + 2) M sh in
-          let xs = c.four_of-xs.ensures (solved dual a.m M) rest one.0 shN in
-          let ys = c.four_of-ys.ensures (solved dual a.m M) rest one.0 shN in
-          fine-four a.m a.at M one.1 c.if-fine.true xs ys;
-      doubles = left-doubles (goal.at.returns-then-fine c).After-clear;
-      counts = left-counts (goal.at.returns-then-fine c).After-clear_bytes;
-    }
+pub returns-then-not-fine-clause-answers : goal.returns-then-not-fine-clause-answers
+returns-then-not-fine-clause-answers c =
+    let a = c.args in
+    let k = (goal.at.returns-then-not-fine-clause-answers c).After-solve_rows-fine in
+    none-four a.m a.at (rows_in k) (verdict k) (not-true _ (ap not c.if-not-fine.true))
 
-pub returns : goal.returns
-returns c =
-    let a = c.args in record {
-      answers = λ M rest e sh. c.unsolved.ensures ∙ none-four a.m a.at M (solved-in (goal.at.returns c).After-solve_rows-fine M rest e sh).1 c.if-fine.false;
-      doubles = left-doubles (goal.at.returns c).After-clear;
-      counts = left-counts (goal.at.returns c).After-clear_bytes;
-    }
+pub returns-clause-answers : goal.returns-clause-answers
+returns-clause-answers c =
+    let a = c.args in
+    let k = (goal.at.returns-clause-answers c).After-solve_rows-fine in
+    fine-four a.m a.at (rows_in k) (verdict k) (not-false _ (ap not c.if-not-fine.false))
+    (c.four_of-xs.ensures ∙ (λ t. four a.at (column dual (still k t) (solved-in k t) a.m (zeros dual))))
+    (c.four_of-ys.ensures ∙ (λ t. four a.at (column dual (still k t) (solved-in k t) (a.m + 1) (zeros dual))))

@@ -5,44 +5,25 @@ use borrow.Author.Tests.{lt-ltb, le-ltb, le-leb}
 use Rattle.span.specs.Counting.{counted_of}
 use Rattle.span.proofs.Spans.{reaches, counted-span}
 use Rattle.span.proofs.span.Goals as goal
+use Rattle.span.proofs.span.Goals.{then-n-lt4-via-then-n-lt4, then-n-lt4-via-else-n-lt4+then-n-gt66, then-n-lt4-via-else-n-lt4+else-n-gt66+then-n-u}
 
-pub returns-then-n-lt4 : goal.returns-then-n-lt4
+pub returns-then-n-lt4-clause-fact_1 : goal.returns-then-n-lt4-clause-fact_1
 unfolding counted_of
-returns-then-n-lt4 c = record {
-  fact_1 = rw (lt-ltb _ _ c.if-n-lt4.true);
-  fact_2 = (λ f g up. absurd (omega arith));
-  fact_3 = omega arith;
-  fact_4 = omega arith;
-  fact_5 = λ h. omega arith;
-}
+returns-then-n-lt4-clause-fact_1 c =
+    elim c.then-n-lt4.branch [
+      | then-n-lt4-via-then-n-lt4 w ↦ rw (lt-ltb _ _ w.if-n-lt4.true)
+      | then-n-lt4-via-else-n-lt4+then-n-gt66 w ↦ rw (le-ltb _ _ w.if-n-lt4.false, lt-ltb _ _ w.if-n-gt66.true)
+      | then-n-lt4-via-else-n-lt4+else-n-gt66+then-n-u w ↦ rw (le-ltb _ _ w.if-n-lt4.false, le-ltb _ _ w.if-n-gt66.false, le-leb _ _ w.if-n-u.true)
+    ]
 
-pub returns-then-n-gt66 : goal.returns-then-n-gt66
-unfolding counted_of
-returns-then-n-gt66 c = record {
-  fact_1 = rw (le-ltb _ _ c.if-n-lt4.false, lt-ltb _ _ c.if-n-gt66.true);
-  fact_2 = (λ f g up. absurd (omega arith));
-  fact_3 = omega arith;
-  fact_4 = omega arith;
-  fact_5 = λ h. omega arith;
-}
+pub returns-then-n-lt4-clause-fact_2 : goal.returns-then-n-lt4-clause-fact_2
+returns-then-n-lt4-clause-fact_2 c =
+    λ f g up.
+    elim c.then-n-lt4.branch [
+      | then-n-lt4-via-then-n-lt4 w ↦ absurd (omega (arith, f, w.if-n-lt4.true))
+      | then-n-lt4-via-else-n-lt4+then-n-gt66 w ↦ absurd (omega (arith, g, w.if-n-gt66.true))
+      | then-n-lt4-via-else-n-lt4+else-n-gt66+then-n-u w ↦ absurd (omega (arith, reaches c.args.u.now c.args.n up, w.if-n-u.true))
+    ]
 
-pub returns-then-n-u : goal.returns-then-n-u
-unfolding counted_of
-returns-then-n-u c =
-    let a = c.args in record {
-      fact_1 = rw (le-ltb _ _ c.if-n-lt4.false, le-ltb _ _ c.if-n-gt66.false, le-leb _ _ c.if-n-u.true);
-      fact_2 = (λ f g up. absurd (omega (arith, reaches a.u.now a.n up)));
-      fact_3 = omega arith;
-      fact_4 = omega arith;
-      fact_5 = λ h. omega arith;
-    }
-
-pub returns : goal.returns
-returns c =
-    let e = c.counted.ensures.fact_1 in record {
-      fact_1 = e;
-      fact_2 = (λ f g up. e ∙ counted-span _ _ _ f g up);
-      fact_3 = omega arith;
-      fact_4 = omega arith;
-      fact_5 = λ h. omega arith;
-    }
+pub returns-clause-fact_2 : goal.returns-clause-fact_2
+returns-clause-fact_2 c = λ f g up. c.counted.ensures.fact_1 ∙ counted-span _ _ _ f g up

@@ -1,8 +1,9 @@
 -- `threshdune::threshdune_build_control` meets its contract.
-use mathlib.Core.Path.{ap}
-use mathlib.Core.List.{[]}
-use Rattle.build.specs.Build.{Sliced, sliced}
+use Rattle.threshdune.proofs.Ungiven.{built_given}
 use Rattle.threshdune.proofs.threshdune_build_control.Goals as goal
 
 pub returns : goal.returns
-returns c = ap (λ (s : Sliced). sliced s.refusal s.control s.knots []) c.build_slices-r.ensures
+returns c =
+    let a = c.args in
+    built_given a.coords.now a.knots.now a.control.now a.knots_out.now c.given_knots.ensures.flag c.given_knots.ensures.list c.number_of.ensures
+    c.build_slices.ensures

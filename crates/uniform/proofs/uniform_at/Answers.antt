@@ -1,19 +1,11 @@
 -- `uniform::uniform_at` meets its contract.
-use native.Mathlib.Omega.{arith}
 use borrow.Author.Tests.{lt-ltb, le-ltb}
-use Rattle.meaning.proofs.Whole.{held}
 use Rattle.uniform.specs.Uniform.{uniform_at}
 use Rattle.uniform.proofs.uniform_at.Goals as goal
 
 pub returns-then-j-lt4 : goal.returns-then-j-lt4
 unfolding uniform_at
 returns-then-j-lt4 c = rw (lt-ltb _ _ c.if-j-lt4.true)
-
-pub int_to_float-result : goal.int_to_float-result
-int_to_float-result c = held _ (omega arith)
-
-pub int_to_float-result-then-j-n : goal.int_to_float-result-then-j-n
-int_to_float-result-then-j-n c = held _ (omega arith)
 
 pub returns-then-j-n : goal.returns-then-j-n
 unfolding uniform_at
@@ -23,6 +15,6 @@ pub returns-then-j-n-2 : goal.returns-then-j-n-2
 unfolding uniform_at
 returns-then-j-n-2 c = rw (le-ltb _ _ c.if-j-lt4.false, le-ltb _ _ c.if-j-n.false, lt-ltb _ _ c.if-j-n-2.true)
 
-pub returns : goal.returns
+pub returns-else-j-n-2 : goal.returns-else-j-n-2
 unfolding uniform_at
-returns c = rw (le-ltb _ _ c.if-j-lt4.false, le-ltb _ _ c.if-j-n.false, le-ltb _ _ c.if-j-n-2.false)
+returns-else-j-n-2 c = rw (le-ltb _ _ c.if-j-lt4.false, le-ltb _ _ c.if-j-n.false, le-ltb _ _ c.if-j-n-2.false)

@@ -1,28 +1,27 @@
 -- `partials::Dv::is_fine` meets its contract: the flag falls at a partial that is not finite, and stays down.
-use mathlib.Core.Path.{ap}
-use mathlib.Core.Bool.{not}
+use mathlib.Core.Path.{◌≡◌}
 use native.Mathlib.Omega.{arith}
-use Prim.Native.Nat.{◌-◌}
+use Prim.Native.Nat.{◌<◌}
+use lib.ListN.{length, take}
+use borrow.Author.Rules.{rules}
+use Rattle.std.proofs.lemmas.List.{get_or-take, length-take}
 use Rattle.meaning.proofs.For.{first, next, last}
 use Rattle.partials.specs.Dual.{fine_dv}
-use Rattle.partials.proofs.Flag.{cleared, kept}
 use Rattle.partials.proofs.Dv.is_fine.Goals as goal
-use Rattle.partials.proofs.Dv.is_fine.Goals.{then-not-is_finite, else-not-is_finite}
 
-pub loop-k-init : goal.loop-k-init
-loop-k-init c = first (omega arith)
+pub loop-x-init : goal.loop-x-init
+loop-x-init c = first (omega arith)
 
-pub loop-k-preserved : goal.loop-k-preserved
-loop-k-preserved c =
-    let told = c.is_finite.ensures in
-    let l = c.loop-k in
-    next l.invariant (omega arith)
-    (elim c.if-not-is_finite.branch [
-      | then-not-is_finite w ↦ cleared l.fine _ (ap not w.if-not-is_finite.true) w.fine-is told
-      | else-not-is_finite w ↦ kept l.fine _ (ap not w.if-not-is_finite.false) w.fine-is told
-    ])
+pub loop-x-preserved : goal.loop-x-preserved
+loop-x-preserved c =
+    let here : c.loop-x.x-index < c.count.result = omega (arith, length-take c.count.result c.args.self.g) in
+    next c.loop-x.invariant (omega arith)
+    (rw (c.is_finite-fine-in-loop-x.ensures, get_or-take))
 
 pub returns : goal.returns
 unfolding fine_dv
 returns c =
-    rw (c.is_finite-fine.ensures, c.counted-n.ensures.0) at (last c.loop-k.invariant (omega arith))
+    let h = c.well_formed in
+    let full : length c.args.self.g ≡ 27 = search rules in
+    let all : length (take c.count.result c.args.self.g) ≡ c.count.result = omega (arith, length-take c.count.result c.args.self.g) in
+    rw (all, c.is_finite-fine.ensures, c.count.ensures.0) at (last c.loop-x.invariant (omega arith))

@@ -1,9 +1,14 @@
 -- `solve::dense::eliminate` meets its contract: the columns below col are eliminated, and the flag is their verdict.
-use Rattle.meaning.specs.Scalar.{plain}
+use mathlib.Core.Path.{◌≡◌}
+use lib.ListN.{length}
 use Rattle.solve.specs.Elimination.{column_done}
 use Rattle.solve.specs.Verdicts.{column_ok}
 use Rattle.solve.proofs.Passes.{Pass}
 use Rattle.solve.proofs.dense.eliminate.Given as goal
 
 abbrev pub invariant-loop-col : goal.invariant-loop-col
-invariant-loop-col l = Pass l.m l.s (column_done plain l.m) (column_ok plain l.m) l.initial.order l.initial.w l.col l.order l.w l.fine
+invariant-loop-col g l =
+    let M = g.R.Rows.rows l.initial.rows in
+    let o = g.R.Rows.ops in
+    let m = length M in
+    Pass m (column_done o m) (column_ok o m) M l.col (g.R.Rows.rows l.rows) l.fine × g.R.Rows.same l.initial.rows l.rows × (l.col-end ≡ m)

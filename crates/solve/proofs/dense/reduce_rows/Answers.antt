@@ -1,50 +1,51 @@
--- `solve::dense::reduce_rows` meets its contract: the rows below r are reduced, and the flag is their verdict.
+-- `solve::dense::reduce_rows` meets its contract: the rows below r are reduced, the flag is their verdict, and row col is kept.
+use mathlib.Core.List.{[]}
+use mathlib.Core.Path.{refl, subst}
+use Prim.Native.Nat.{ℕ, ◌<◌}
 use native.Mathlib.Omega.{arith}
-use mathlib.Core.Path.{refl}
-use Rattle.meaning.specs.Scalar.{plain}
-use Rattle.solve.specs.Placed.{laid}
-use Rattle.solve.proofs.Placed.{laid_shaped}
-use Rattle.solve.proofs.Reducing.{partly, reducing_start, reducing_next, reducing_end}
+use lib.ListN.{length, get_or, set}
+use Rattle.solve.specs.Left.{Becomes}
+use Rattle.solve.specs.Elimination.{reduced}
+use Rattle.solve.specs.Verdicts.{reduced_ok}
+use Rattle.solve.proofs.Reducing.{reducing_start, reducing_next, reducing_end}
 use Rattle.solve.proofs.dense.reduce_rows.Goals as goal
 
 pub loop-r-init : goal.loop-r-init
-loop-r-init c =
-    let a = c.args in (
-      λ M rest e sh. reducing_start plain a.m a.n a.s a.col a.p.now M a.order.now rest sh a.w.now c.requires.0 e,
-      omega arith,
-      omega arith,
-      refl,
+loop-r-init g c =
+    let M = g.R.Rows.rows c.args.rows.now in (
+      reducing_start g.R.Rows.ops (length M) c.args.col M refl c.requires,
+      c.pivot_row-pivot.ensures c.requires,
+      g.met.R.Rows.again c.args.rows.now,
+      c.count-m.ensures.count,
     )
 
-pub offset_bounds-order-r : goal.offset_bounds-order-r
-offset_bounds-order-r c = omega (arith, c.loop-r-test.true, c.requires.4.few)
-
-pub bounds-order-r : goal.bounds-order-r
-bounds-order-r c = omega (arith, c.loop-r-test.true, c.requires.4.few)
-
-pub reduce_at-requires : goal.reduce_at-requires
-reduce_at-requires c =
-    (c.requires.4.within _ c.loop-r-test.true, c.requires.1, omega (arith, c.requires, c.loop-r.invariant.3), c.requires.3)
-
 pub loop-r-preserved : goal.loop-r-preserved
-loop-r-preserved c =
-    let call = c.reduce_at in
+loop-r-preserved g c =
+    let a = c.args in
+    let o = g.R.Rows.ops in
+    let M = g.R.Rows.rows a.rows.now in
     let l = c.loop-r in
-    let h = c.loop-r-test.true in
-    let a = c.args in (
-      λ M rest e sh.
-          let old = l.invariant.0 M rest e sh in
-          let N = partly plain a.m a.n a.s a.col a.p.now M l.r in
-          let new = call.ensures (laid a.m a.order.now N) rest old.rows (laid_shaped c.requires.4 N old.shape) in
-          reducing_next plain a.m a.n a.s a.col a.p.now M a.order.now rest sh c.requires.4 old l.invariant.1 h new.0 new.1 c.both-fine.ensures,
-      omega arith,
-      omega arith,
-      omega (arith, call.auto),
+    let N = g.R.Rows.rows l.rows in
+    let i = l.invariant in
+    let call = c.reduce.ensures in
+    let many = g.met.R.Rows.as_many a.rows.now l.rows i.2 in
+    let h : l.r < length M = omega (arith, c.loop-r-test.true, i.3) in
+    let there : l.r < length N = omega (arith, h, many) in
+    let does = subst
+    (λ (m : ℕ). Becomes (λ K. set K l.r (reduced o m a.col (get_or K a.col []) (get_or K l.r [])))
+    (λ K. reduced_ok o m a.col (get_or K a.col []) (get_or K l.r [])) N (g.R.Rows.rows c.reduce.new.self) c.reduce.result)
+    many (call.rows i.1 i.0.below there) in (
+      reducing_next o (length M) a.col M refl i.0 h does c.both-fine.ensures,
+      call.kept i.1 i.0.below there,
+      g.met.R.Rows.along a.rows.now l.rows c.reduce.new.self i.2 call.same,
+      i.3,
     )
 
 pub returns : goal.returns
-returns c =
-    let a = c.args in
-    let l = c.loop-r in
-    λ M rest q sh.
-    reducing_end plain a.m a.n a.s a.col a.p.now M a.order.now rest sh (l.invariant.0 M rest q sh) (omega (arith, l.invariant.2, c.loop-r-test.false))
+returns g c =
+    let M = g.R.Rows.rows c.args.rows.now in
+    let i = c.loop-r.invariant in
+    record {
+      rows = reducing_end g.R.Rows.ops (length M) c.args.col M refl i.0 (omega (arith, c.loop-r-test.false, i.3));
+      same = i.2;
+    }

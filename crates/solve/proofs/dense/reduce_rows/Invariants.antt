@@ -1,12 +1,11 @@
--- `solve::dense::reduce_rows` meets its contract: the rows below r are reduced, and the flag is their verdict.
-use Prim.Native.Nat.{◌≤◌, ◌<◌}
+-- `solve::dense::reduce_rows` meets its contract: the rows below r are reduced, the flag is their verdict, and row col is kept.
 use mathlib.Core.Path.{◌≡◌}
 use lib.ListN.{length}
-use Rattle.meaning.specs.Scalar.{plain}
-use Rattle.solve.specs.Placed.{OfPlaced}
 use Rattle.solve.proofs.Reducing.{Reducing}
 use Rattle.solve.proofs.dense.reduce_rows.Given as goal
 
 abbrev pub invariant-loop-r : goal.invariant-loop-r
-invariant-loop-r l =
-    OfPlaced l.m l.s l.order l.initial.w (λ M rest. Reducing plain l.m l.n l.s l.col l.p M l.order rest l.r l.w l.fine) × (l.col < l.r) × (l.r ≤ l.m) × (length l.w ≡ length l.initial.w)
+invariant-loop-r g l =
+    let M = g.R.Rows.rows l.initial.rows in
+    Reducing g.R.Rows.ops (length M) l.col M l.r (g.R.Rows.rows l.rows) l.fine × g.R.Rows.kept l.rows l.col l.pivot × g.R.Rows.same l.initial.rows l.rows
+    × (l.m ≡ length M)

@@ -1,33 +1,24 @@
 -- `solve::dense::solve_rows` meets its contract: the elimination, and back substitution on what it leaves.
-use Prim.Native.Nat.{◌+◌}
-use native.Mathlib.Omega.{arith}
-use mathlib.Core.Path.{sym, ◌∙◌}
-use Rattle.meaning.specs.Scalar.{plain}
-use Rattle.solve.specs.Elimination.{eliminated}
-use Rattle.solve.specs.Substitution.{solved}
-use Rattle.solve.proofs.Steps.{eliminated_shaped}
-use Rattle.solve.proofs.Stored.{solved_along}
+use mathlib.Core.Path.{subst}
+use Prim.Native.Nat.{ℕ}
+use lib.ListN.{length}
+use Rattle.solve.specs.Left.{Becomes}
+use Rattle.solve.specs.Substitution.{backed}
+use Rattle.solve.specs.Verdicts.{backed_ok}
+use Rattle.solve.proofs.Stored.{solve_comes}
 use Rattle.solve.proofs.dense.solve_rows.Goals as goal
 
-pub eliminate-first-requires : goal.eliminate-first-requires
-eliminate-first-requires c =
-    let p = c.requires in
-    (omega arith, omega (arith, p.1.few), p.0, p.1)
-
-pub substitute-second-requires : goal.substitute-second-requires
-substitute-second-requires c =
-    let one = c.eliminate-first in
-    let p = c.requires in
-    (omega arith, omega (arith, p.0), one.ensures.stays)
-
 pub returns : goal.returns
-unfolding solved
-returns c =
-    let m = c.args.m in
-    let one = c.eliminate-first.ensures in record {
-      stays = one.stays;
-      becomes = λ M rest e sh.
-          let first = one.becomes M rest e sh in
-          let two = c.substitute-second.ensures (eliminated plain m m M) rest first.0 (eliminated_shaped plain m (m + 2) m M (omega arith) sh) in
-          (two.0, c.both.ensures ∙ rw (first.1, two.1) (sym (solved_along plain m M sh)));
+returns g c =
+    let a = c.args in
+    let o = g.R.Rows.ops in
+    let M = g.R.Rows.rows a.rows.now in
+    let one = c.eliminate-first in
+    let two = c.substitute-second in
+    let second = subst
+    (λ (m : ℕ). Becomes (backed o m m) (backed_ok o m m) (g.R.Rows.rows one.new.rows) (g.R.Rows.rows two.new.rows) two.result)
+    (g.met.R.Rows.as_many a.rows.now one.new.rows one.ensures.same) two.ensures.rows in
+    record {
+      rows = solve_comes o (length M) M one.ensures.shape one.ensures.rows second c.both.ensures;
+      same = g.met.R.Rows.along a.rows.now one.new.rows two.new.rows one.ensures.same two.ensures.same;
     }

@@ -1,24 +1,32 @@
--- `solve_partials::cell::less_nothing` meets its contract: from the numbers from lo on, below j, +0.0 is taken off.
-use mathlib.Core.Path.{refl, ap}
+-- `solve_partials::cell::less_nothing` meets its contract: from the numbers passed +0.0 is taken off.
+use mathlib.Core.Path.{refl, sym, ap, ◌∙◌}
+use mathlib.Core.List.{map}
+use Prim.Native.Nat.{◌<◌}
 use native.Mathlib.Omega.{arith}
-use lib.Ieee.{Float, binary64, sub}
+use lib.ListN.{length}
+use lib.Seq.{ext_get_or}
+use lib.Ieee.{Float, binary64, nan, sub}
 use Rattle.meaning.specs.Scalar.{zero64}
-use Rattle.solve_partials.proofs.Sweeps.{start, next, over}
-use borrow.Author.Rules.{rules}
+use Rattle.std.proofs.lemmas.List.{length-map, get_or-map}
+use Rattle.solve_partials.proofs.Sweeps.{start, next}
 use Rattle.solve_partials.proofs.cell.less_nothing.Goals as goal
 
-pub loop-j-init : goal.loop-j-init
-loop-j-init c = (start c.args.t.now, omega arith, omega arith, refl)
+pub loop-x-init : goal.loop-x-init
+loop-x-init c = (start c.args.t.now, refl)
 
-pub loop-j-preserved : goal.loop-j-preserved
-loop-j-preserved c =
-    let l = c.loop-j in (
-      next l.j _ l.invariant.0 l.invariant.1 (omega (arith, c.requires, c.loop-j-test.true))
-          (ap (λ (x : Float). sub binary64 x zero64) (l.invariant.0.past l.j (omega arith))),
-      omega arith,
-      omega arith,
-      search rules,
-    )
+pub loop-x-preserved : goal.loop-x-preserved
+loop-x-preserved c =
+    let l = c.loop-x in
+    let i = l.invariant in
+    (next l.x-index _ i.0 (omega arith) (omega (arith, c.loop-x-test.true)) (ap (λ (x : Float). sub binary64 x zero64) (i.0.past l.x-index (omega arith))), i.1)
 
 pub returns : goal.returns
-returns c = over c.loop-j.j c.args.hi c.loop-j.invariant.0 (omega arith)
+returns c =
+    let l = c.loop-x in
+    let i = l.invariant in
+    let t = c.args.t.now in
+    let f : Float → Float = λ x. sub binary64 x zero64 in
+    ext_get_or nan l.x-items (map f t) (i.0.long ∙ sym (length-map t f))
+    (λ j h.
+    let low : j < length t = omega (arith, i.0.long) in
+    i.0.done j (omega arith) (omega (arith, low, c.loop-x-test.false)) ∙ sym (get_or-map f t j nan nan low))

@@ -1,5 +1,4 @@
--- `solve_partials::cell::less_nothing` meets its contract: from the numbers from lo on, below j, +0.0 is taken off.
-use Prim.Native.Nat.{◌≤◌}
+-- `solve_partials::cell::less_nothing` meets its contract: from the numbers passed +0.0 is taken off.
 use mathlib.Core.Path.{◌≡◌}
 use lib.ListN.{length}
 use lib.Ieee.{binary64, nan, sub}
@@ -8,5 +7,7 @@ use Rattle.solve_partials.specs.Sweep.{Swept}
 use Rattle.solve_partials.specs.Held.{numbered}
 use Rattle.solve_partials.proofs.cell.less_nothing.Given as goal
 
-abbrev pub invariant-loop-j : goal.invariant-loop-j
-invariant-loop-j l = Swept (λ j. sub binary64 (numbered l.initial.t j) zero64) nan l.lo l.j l.initial.t l.t × (l.lo ≤ l.j) × (l.j ≤ l.hi) × (length l.t ≡ length l.initial.t)
+abbrev pub invariant-loop-x : goal.invariant-loop-x
+invariant-loop-x l =
+    Swept (λ j. sub binary64 (numbered l.initial.x-items j) zero64) nan 0 l.x-index l.initial.x-items l.x-items
+    × (l.x-index-end ≡ length l.initial.x-items)

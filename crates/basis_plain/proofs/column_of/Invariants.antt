@@ -1,9 +1,0 @@
--- `basis_plain::column_of` meets its contract: each turn of the loop is `column_turn`.
-use Prim.Native.Nat.{◌-◌}
-use Rattle.meaning.specs.Scalar.{plain}
-use Rattle.meaning.proofs.For.{At}
-use Rattle.basis.specs.Triangle.{column_turn}
-use Rattle.basis_plain.proofs.column_of.Given as goal
-
-abbrev pub invariant-loop-r : goal.invariant-loop-r
-invariant-loop-r l = At 0 l.j (column_turn plain l.left l.right l.j) (record { ndu = l.initial.ndu; saved = l.initial.saved }) l.r (record { ndu = l.ndu; saved = l.saved })

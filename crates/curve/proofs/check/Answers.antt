@@ -1,7 +1,0 @@
--- `curve::check` meets its contract.
-use mathlib.Core.Path.{◌∙◌}
-use Rattle.shape.proofs.With.{with_none}
-use Rattle.curve.proofs.check.Goals as goal
-
-pub returns : goal.returns
-returns c = c.check_with.ensures ∙ with_none _

@@ -1,8 +1,0 @@
--- `evaluate_partials::inside` meets its contract.
-use mathlib.Core.Path.{◌∙◌}
-use Rattle.evaluate.specs.Piece.{on_window}
-use Rattle.evaluate_partials.proofs.inside.Goals as goal
-
-pub returns : goal.returns
-unfolding on_window
-returns c = c.combine.ensures ∙ rw c.values-row.ensures

@@ -1,8 +1,0 @@
--- `fit::total` meets its contract: a turn adds one step.
-use Rattle.meaning.specs.Scalar.{plain}
-use Rattle.meaning.specs.Table.{at1}
-use Rattle.meaning.proofs.For.{At}
-use Rattle.fit.proofs.total.Given as goal
-
-abbrev pub invariant-loop-i : goal.invariant-loop-i
-invariant-loop-i l = At 0 l.k (λ j x. plain.plus x (at1 plain l.s j)) l.initial.sum l.i l.sum

@@ -1,2 +1,0 @@
--- What the two copies' proofs share.
-pub mod Laws

@@ -1,9 +1,0 @@
--- `sheet_text::glyph` meets its contract.
-use borrow.Author.Tests.{lt-ltb, le-ltb}
-use Rattle.sheet_text.proofs.glyph.Goals as goal
-
-pub returns-then-d-lt10 : goal.returns-then-d-lt10
-returns-then-d-lt10 c = rw (lt-ltb _ _ c.if-d-lt10.true)
-
-pub returns : goal.returns
-returns c = rw (le-ltb _ _ c.if-d-lt10.false)

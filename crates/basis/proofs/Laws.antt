@@ -136,8 +136,12 @@ module _ {A : Type 0} (o : Ops A) where
     -- and of these the first row is not zeros
     pub none-but-values : {row : List A} → nd ≡ 0 → row ≡ get_or (derivatives_of o u i t 0) 0 []
         → (row ∷ four_zeros o ∷ four_zeros o ∷ four_zeros o ∷ four_zeros o ∷ []) ≡ derivatives_of o u i t nd
-    unfolding derivatives_of scaled functions_of function_of values_of turns
-    none-but-values z e = rw (e, z)
+    unfolding values_of turns
+    none-but-values {row} z e =
+        let d : values_of o (triangle_of o u i t) ≡ derivatives_of o u i t nd = derivatives_none z refl refl in
+        let first : row ≡ get_or (values_of o (triangle_of o u i t)) 0 [] =
+        e ∙ ap (λ (m : ℕ). get_or (derivatives_of o u i t m) 0 []) (sym z) ∙ ap (λ (v : List (List A)). get_or v 0 []) (sym d) in
+        ap (λ (r : List A). r ∷ four_zeros o ∷ four_zeros o ∷ four_zeros o ∷ four_zeros o ∷ []) first ∙ d
 
     pub derivatives_of_lem : {n : ℕ} {ndu v d q : List (List A)} → ndu ≡ triangle_of o u i t → v ≡ values_of o ndu → n ≡ min nd 3
         → d ≡ functions_of o ndu n v → q ≡ scaled o n d → q ≡ derivatives_of o u i t nd

@@ -44,6 +44,16 @@ around_basis us vs i t nd g h e =
     ∙ ap (λ (w : List Float). derivatives_of plain w 2 t nd) (around-window us vs i e)
     ∙ basis_window plain vs i t nd g h
 
+-- the six knots alone and the room in which they stand say the same
+pub window_in_room : (us : List Float) (i : ℕ) (xs ys : List Float) (t : Float) (nd : ℕ)
+    → on_window plain (window plain us i) xs ys t nd ≡ on_span plain (around us i) 3 xs ys t nd
+unfolding on_window on_span
+window_in_room us i xs ys t nd =
+    let rows : derivatives_of plain (window plain us i) 2 t nd ≡ basis_of plain (around us i) 3 t nd =
+    ap (λ (w : List Float). derivatives_of plain w 2 t nd) (sym (around-window us us i (λ k l. refl)))
+    ∙ basis_window plain (around us i) 3 t nd (omega arith) (omega arith) in
+    λ h k. of_four plain xs ys (rows h) k
+
 -- ---- the control points
 
 module _ {A : Type 0} (o : Ops A) where

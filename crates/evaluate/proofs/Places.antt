@@ -1,6 +1,6 @@
 -- Where a parameter lies, and what is answered there. Assumes nothing.
 use mathlib.Core.Path.{◌≡◌, refl, ap, ◌∙◌}
-use mathlib.Core.Bool.{Bool, true, false, ◌&&◌, cond}
+use mathlib.Core.Bool.{true, false, ◌&&◌}
 use Prim.Native.Nat.{ℕ, zero, suc, ◌+◌, ◌≤◌}
 use Rattle.std.specs.Prelude.{Option, Some, None}
 use Rattle.std.specs.Option.{unwrap_or}
@@ -46,29 +46,44 @@ module _ {A : Type 0} (o : Ops A) (sp : Float → ℕ) (c : Shape A) (t : A) (nd
       absurd (h (leb-true 4 c.n (and_left (leb 4 c.n) _ e), leb-true c.n 66 (and_left (leb c.n 66) _ r), leb-true nd 4 (and_right (leb c.n 66) _ r))))
       (λ e. rw e)
 
+  -- before the domain, past it, in it: order by order
+  module _ (before : lt (o.val t) (o.val (at1 o c.knots 0)) ≡ true) (k : ℕ) where
+    pub at_before : beyond_of o sp c (at1 o c.knots 0) t k ≡ order_at o sp c t nd k
+    unfolding order_at
+    at_before = rw before
+
+  module _ (after : lt (o.val t) (o.val (at1 o c.knots 0)) ≡ false) (k : ℕ) where
+    pub at-past : lt (o.val (at1 o c.knots (c.n + 3))) (o.val t) ≡ true → beyond_of o sp c (at1 o c.knots (c.n + 3)) t k ≡ order_at o sp c t nd k
+    unfolding order_at
+    at-past e = rw (after, e)
+
+    pub at_inside : lt (o.val (at1 o c.knots (c.n + 3))) (o.val t) ≡ false → inside_of o sp c t nd k ≡ order_at o sp c t nd k
+    unfolding order_at
+    at_inside e = rw (after, e)
+
+  -- and in the room
   module _ (g : 4 ≤ c.n) (h : c.n ≤ 66) (q : nd ≤ 4) where
     asked : {f : ℕ → Vector A} → ((k : ℕ) → f k ≡ order_at o sp c t nd k) → placed o (nd + 1) f ≡ orders_of o sp c t nd
     unfolding orders_of
     asked e = ap (placed o (nd + 1)) (λ i k. e k i) ∙ simp (le-leb _ _ g, le-leb _ _ h, le-leb _ _ q)
 
-    -- in the domain
+    pub before-domain : lt (o.val t) (o.val (at1 o c.knots 0)) ≡ true
+        → placed o (nd + 1) (beyond_of o sp c (at1 o c.knots 0) t) ≡ orders_of o sp c t nd
+    before-domain e = asked (at_before e)
+
+    pub past-domain : lt (o.val t) (o.val (at1 o c.knots 0)) ≡ false → lt (o.val (at1 o c.knots (c.n + 3))) (o.val t) ≡ true
+        → placed o (nd + 1) (beyond_of o sp c (at1 o c.knots (c.n + 3)) t) ≡ orders_of o sp c t nd
+    past-domain e f = asked (λ k. at-past e k f)
+
     pub in_domain : lt (o.val t) (o.val (at1 o c.knots 0)) ≡ false → lt (o.val (at1 o c.knots (c.n + 3))) (o.val t) ≡ false
         → placed o (nd + 1) (inside_of o sp c t nd) ≡ orders_of o sp c t nd
-    unfolding order_at
-    in_domain e f = asked (λ k. rw (e, f))
+    in_domain e f = asked (λ k. at_inside e k f)
 
 -- two ways to find a span that agree give the same answers
 pub same_span : {A : Type 0} (o : Ops A) {sp sq : Float → ℕ} (c : Shape A) (t : A) (nd : ℕ) → ((x : Float) → sp x ≡ sq x) → orders_of o sp c t nd ≡ orders_of o sq c t nd
 same_span o c t nd h = ap (λ (s : Float → ℕ). orders_of o s c t nd) (λ i x. h x i)
 
 -- ---- by the end past which t lies, if it lies past one
-
-module _ (f : Float → ℕ → ℕ → Vector Float) (lo hi t : Float) (nd k : ℕ) where
-  by_tests : (a b : Bool) → by_end plain (cond a (Some lo) (cond b (Some hi) None)) f t nd k
-      ≡ cond a (straight_on plain (f lo 1) lo t k) (cond b (straight_on plain (f hi 1) hi t k) (f t nd k))
-  by_tests true b = refl
-  by_tests false true = refl
-  by_tests false false = refl
 
 -- what gives the same orders where they are asked for
 same_by_end : (end : Option Float) (f g : Float → ℕ → ℕ → Vector Float) (t : Float) (nd : ℕ) → ((m : ℕ) → f (unwrap_or end t) m ≡ g (unwrap_or end t) m)
@@ -77,16 +92,26 @@ same_by_end None f g t nd h = h nd
 same_by_end (Some e) f g t nd h = λ i k. straight_on plain (h 1 i) e t k
 
 module _ (sp : Float → ℕ) (c : Shape Float) (t : Float) (nd : ℕ) (w : (4 ≤ c.n) × (c.n ≤ 66) × (nd ≤ 4)) where
+  abbrev low : Float
+  low = at1 plain c.knots 0
+
+  abbrev high : Float
+  high = at1 plain c.knots (c.n + 3)
+
+  -- the curve's own orders, by the end of its domain past which t lies
+  by_place : placed plain (nd + 1) (by_end plain (end_past low high t) (inside_of plain sp c) t nd) ≡ orders_of plain sp c t nd
+  unfolding beyond_of
+  by_place =
+      by_two (lt t low) (λ e. rw e (before-domain plain sp c t nd w.0 w.1 w.2 e))
+      (λ e. by_two (lt high t) (λ f. rw (e, f) (past-domain plain sp c t nd w.0 w.1 w.2 e f))
+      (λ f. rw (e, f) (in_domain plain sp c t nd w.0 w.1 w.2 e f)))
+
   -- The code's answer, from a piece that reads as the curve does where it is looked for.
   pub answered : {lo hi : Float} {end : Option Float} (p : Piece Float) → lo ≡ at1 plain c.knots 0 → hi ≡ at1 plain c.knots (c.n + 3)
       → end ≡ end_past lo hi t → ((m : ℕ) → on_piece plain p (unwrap_or end t) m ≡ inside_of plain sp c (unwrap_or end t) m)
       → placed plain (nd + 1) (by_end plain end (on_piece plain p) t nd) ≡ orders_of plain sp c t nd
-  unfolding order_at beyond_of
-  answered {lo} {hi} {end} p first last e reads =
+  answered {end = end} p first last e reads =
       let f : Float → ℕ → ℕ → Vector Float = inside_of plain sp c in
-      ap (placed plain (nd + 1)) (same_by_end end (on_piece plain p) f t nd reads)
-      ∙ asked plain sp c t nd w.0 w.1 w.2
-      (λ k.
-      ap (λ (x : Option Float). by_end plain x f t nd k) e
-      ∙ by_tests f lo hi t nd k (lt t lo) (lt hi t)
-      ∙ rw (first, last))
+      ap (placed plain (nd + 1))
+      (same_by_end end (on_piece plain p) f t nd reads ∙ ap (λ (x : Option Float). by_end plain x f t nd) (e ∙ (λ i. end_past (first i) (last i) t)))
+      ∙ by_place

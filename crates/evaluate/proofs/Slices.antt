@@ -1,6 +1,6 @@
 -- A curve in slices: its knots and control points, read in place, are those of its shape. Assumes nothing.
 use mathlib.Core.Path.{◌≡◌, sym, ap, ◌∙◌}
-use mathlib.Core.List.{List, [], ◌∷◌}
+use mathlib.Core.List.{List}
 use Prim.Native.Nat.{ℕ, ◌+◌, ◌-◌, ◌*◌, ◌≤◌, ◌<◌}
 use native.Mathlib.Omega.{arith}
 use borrow.Author.Tests.{eq-eqb, ne_eqb}
@@ -13,9 +13,9 @@ use Rattle.span.specs.Counting.{counted_of}
 use Rattle.span.proofs.Spans.{same_counted}
 use Rattle.shape.specs.Shape.{Shape, points_in, slice_shape}
 use Rattle.shape.proofs.Handles.{given_front, given-at}
-use Rattle.evaluate.specs.Point.{placed, inside_of, orders_of}
+use Rattle.evaluate.specs.Point.{inside_of, orders_of}
 use Rattle.evaluate.specs.Piece.{found, four_of, around, on_span, on_window, Counted, slice_orders}
-use Rattle.evaluate.proofs.Pieces.{around_basis, weighted_others, on_span_is, on_window_reads}
+use Rattle.evaluate.proofs.Pieces.{around_basis, window_in_room, weighted_others, on_span_is}
 
 -- ---- by the number of knots
 
@@ -46,26 +46,20 @@ module _ (coords ks : List Float) (w : Counted coords ks) where
   span-found : (t : Float) → counted_of ks c.n t ≡ found c t
   span-found t = same_counted ks c.knots c.n t (λ i h. sym (knot-at i (omega arith))) w.four w.room (omega (arith, w.long)) knots_reach
 
-  -- what the code reads of span i: the knots around it, x from a on, y from b on
+  -- what is read of span i: the knots around it, in a room in which it is the third, x from a on, y from b on
+  pub slices_on_span : (t : Float) (nd i a b : ℕ) → i ≡ counted_of ks c.n t → 3 ≤ i → i < c.n → a ≡ 2 * (i - 3) → b ≡ 2 * (i - 3) + 1
+      → on_span plain (around ks i) 3 (four_of plain coords a 2) (four_of plain coords b 2) t nd ≡ inside_of plain (found c) c t nd
+  slices_on_span t nd i a b e g h p q =
+      let r = w.room in
+      on_span_is plain (found c) c t nd (around ks i) 3 i (four_of plain coords a 2) (four_of plain coords b 2) (e ∙ span-found t)
+      (around_basis ks c.knots i t nd g (omega arith) (λ k l. sym (knot-at (i - 2 + k) (omega arith))))
+      (weighted_others coords c.n 0 a i r g h (omega arith)) (weighted_others coords c.n 1 b i r g h q)
+
+  -- the same from the six knots alone, as the code reads them
   pub slices_read : (t : Float) (nd i a b : ℕ) → i ≡ counted_of ks c.n t → 3 ≤ i → i < c.n → a ≡ 2 * (i - 3) → b ≡ 2 * (i - 3) + 1
       → on_window plain (window plain ks i) (four_of plain coords a 2) (four_of plain coords b 2) t nd ≡ inside_of plain (found c) c t nd
   slices_read t nd i a b e g h p q =
-      let r = w.room in
-      let at : (k : ℕ) → k < 6 → at1 plain ks (i - 2 + k) ≡ at1 plain c.knots (i - 2 + k) = λ k l. sym (knot-at (i - 2 + k) (omega arith)) in
-      on_window_reads plain (found c) c t nd (window plain ks i) i (four_of plain coords a 2) (four_of plain coords b 2)
-      (λ j. at 0 (omega arith) j ∷ at 1 (omega arith) j ∷ at 2 (omega arith) j ∷ at 3 (omega arith) j ∷ at 4 (omega arith) j ∷ at 5 (omega arith) j ∷ [])
-      (e ∙ span-found t) g (omega arith) (weighted_others coords c.n 0 a i r g h (omega arith)) (weighted_others coords c.n 1 b i r g h q)
-
-  -- the same where the knots stand in a room, in which that span is the third
-  pub slices_on_span : (t : Float) (nd i a b m : ℕ) → i ≡ counted_of ks c.n t → 3 ≤ i → i < c.n → a ≡ 2 * (i - 3) → b ≡ 2 * (i - 3) + 1
-      → placed plain m (on_span plain (around ks i) 3 (four_of plain coords a 2) (four_of plain coords b 2) t nd)
-      ≡ placed plain m (inside_of plain (found c) c t nd)
-  slices_on_span t nd i a b m e g h p q =
-      let r = w.room in
-      ap (placed plain m)
-      (on_span_is plain (found c) c t nd (around ks i) 3 i (four_of plain coords a 2) (four_of plain coords b 2) (e ∙ span-found t)
-      (around_basis ks c.knots i t nd g (omega arith) (λ k l. sym (knot-at (i - 2 + k) (omega arith))))
-      (weighted_others coords c.n 0 a i r g h (omega arith)) (weighted_others coords c.n 1 b i r g h q))
+      window_in_room ks i (four_of plain coords a 2) (four_of plain coords b 2) t nd ∙ slices_on_span t nd i a b e g h p q
 
   -- the ends of its domain
   pub first_knot : at1 plain ks 0 ≡ at1 plain c.knots 0

@@ -11,9 +11,10 @@ use lib.Seq.{get_or-take, get_or-drop, length-take-le}
 use lib.Dec.{ltb}
 use lib.Ieee.{Float, nan, lt, eq, ne}
 use lib.Ieee.Scale.{finite}
-use Rattle.std.specs.List.{fold, list_all, zip}
+use Rattle.std.specs.List.{fold, list_all, zip, range_with_len}
+use Rattle.std.proofs.lemmas.List.FromFn.{length-range_with_len, get_or-range_with_len}
 use Rattle.meaning.specs.Search.{seek_from, some}
-use Rattle.meaning.proofs.Searching.{all_some, pairs_some}
+use Rattle.meaning.proofs.Searching.{kept_all, all_some, pairs_some}
 use Rattle.meaning.proofs.Tests.{or_false}
 use Rattle.knots.specs.Rules.{knot, unfit, some_unfit, unlike}
 use Rattle.knots.specs.Repeat.{repeats}
@@ -31,19 +32,17 @@ not-not : (b : Bool) → b ≡ not (not b)
 not-not true = refl
 not-not false = refl
 
-pub told_repeats : (ks : List Float) (n : ℕ) → 1 ≤ n → length ks ≡ n + 4
-    → fold (λ f p. f && ne p.0 p.1) true (zip (take (n - 1) (drop 1 ks)) (take (length ks - 4) (drop 4 ks))) ≡ not (some 1 n (repeats ks))
+pub told_repeats : (ks : List Float) (n : ℕ) → 1 ≤ n
+    → fold (λ f j. f && ne (knot ks j) (knot ks (j + 3))) true (range_with_len 1 (n - 1)) ≡ not (some 1 n (repeats ks))
 unfolding ne
-told_repeats ks n h long =
-    let one = part_long ks 1 (n - 1) (omega (arith, long)) in
-    let third = part_long ks 4 (length ks - 4) (omega (arith, long)) in
-    let fewer : min (n - 1) (length ks - 4) ≡ n - 1 = min-eq_left (omega (arith, long)) in
-    pairs_some (λ p. ne p.0 p.1) nan nan (take (n - 1) (drop 1 ks)) (take (length ks - 4) (drop 4 ks)) (repeats ks) 1 n
-    (rw (one, third, fewer) (omega arith))
-    (λ i l g.
-    let e : 1 + i + 3 ≡ 4 + i = omega arith in
-    rw (part_at ks 1 (n - 1) i (omega (arith, one)), part_at ks 4 (length ks - 4) i (omega (arith, third)), e) (not-not (eq (knot ks (1 + i)) (knot ks (4 + i)))))
-    true
+told_repeats ks n h =
+    let js = range_with_len 1 (n - 1) in
+    let many = length-range_with_len 1 (n - 1) in
+    kept_all (λ j. ne (knot ks j) (knot ks (j + 3))) js true
+    ∙ all_some (λ j. ne (knot ks j) (knot ks (j + 3))) 0 js (repeats ks) 1 n (omega (arith, many))
+    (λ i l.
+    let low : i < n - 1 = omega (arith, many) in
+    rw (get_or-range_with_len 1 (n - 1) i 0 low) (not-not (eq (knot ks (1 + i)) (knot ks (1 + i + 3)))))
 
 -- ---- a knot that is not finite, or less than the one before
 

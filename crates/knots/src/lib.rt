@@ -69,8 +69,7 @@ fn none_repeats(knots: &[f64], n: usize) -> bool
     requires fact_2 { length knots.now ≡ n + 4 }
     ensures { result ≡ not (some 1 n (repeats knots.now)) }
 {
-    let pairs = knots[1..n].iter().zip(&knots[4..]);
-    pairs.fold(true, |apart, (knot, third)| apart & (*knot != *third))
+    (1..n).fold(true, |apart, j| apart & (knots[j] != knots[j + 3]))
 }
 
 // The rules on the ends and on repeats, for n + 4 finite knots that do not fall.

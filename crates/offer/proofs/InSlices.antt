@@ -14,6 +14,7 @@ use Rattle.meaning.specs.Scalar.{plain, zero64}
 use Rattle.meaning.specs.Table.{at1}
 use Rattle.refusal.proofs.Rows.{Passed}
 use Rattle.knots.specs.declared.Form.TheVariants.{Control}
+use Rattle.knots.proofs.Accepted.{Accepted}
 use Rattle.outcome.proofs.Doors.{put_all}
 use Rattle.shape.proofs.Handles.{given_front, slices_accepted}
 use Rattle.shape.proofs.Sound.{other_at}
@@ -26,7 +27,7 @@ use Rattle.curve.specs.Record.{length_in}
 use Rattle.evaluate.proofs.Slices.{right-count}
 use Rattle.evaluate.specs.Piece.{found, slice_orders}
 use Rattle.evaluate.specs.Point.{orders_of}
-use Rattle.hull.proofs.Given.{AllDoubles, AllNumbers}
+use Rattle.hull.proofs.Given.{AllDoubles, Doubles, AllNumbers}
 
 -- ---- in slices
 
@@ -81,6 +82,31 @@ module _ (ks : List Float) (n : ℕ) (l : length ks ≡ n + 4) (r : n ≤ 66) wh
       by true q = subst Double (in_front i (ltb-true i (n + 4) q)) (d i (omega (arith, ltb-true i (n + 4) q)))
       by false q = subst Double (behind i (ltb-false i (n + 4) q) (omega (arith, long))) zero_double
 
+-- ---- of a curve
+
+module _ (coords ks : List Float) where
+  pub typed_slices : length ks ≡ points_in coords + 4 → points_in coords ≤ 66 → AllDoubles coords → AllDoubles ks → (t : Float) → T (fits binary64 t)
+      → Doubles (slice_shape coords ks) t
+  typed_slices l r c d t p =
+      record {
+        xs = others coords 0 (omega arith) c;
+        ys = others coords 1 (omega arith) c;
+        knots = given ks (points_in coords) l r d;
+        parameter = p;
+      }
+
+  -- corners that are read in place are those of the shape
+  pub turn_length : Accepted ks (points_in coords) → length_by plain (corner_in coords) (points_in coords) ≡ length_in (slice_shape coords ks)
+  turn_length a =
+      let n = points_in coords in
+      same_length (corner_in coords) _ n
+      (λ i h.
+      let r = a.room in
+      let d : 2 * i ≡ 2 * i + 0 = omega arith in
+      let x : at1 plain coords (2 * i) ≡ at1 plain (every_other coords n 0) i = ap (at1 plain coords) d ∙ sym (other_at coords n 0 i r h) in
+      let y : at1 plain coords (2 * i + 1) ≡ at1 plain (every_other coords n 1) i = sym (other_at coords n 1 i r h) in
+      λ k. record { x = x k; y = y k })
+
 -- ---- past the rules
 
 module _ (coords ks : List Float) (p : Passed (handle_rules Control coords true ks)) where
@@ -90,20 +116,5 @@ module _ (coords ks : List Float) (p : Passed (handle_rules Control coords true 
   pub slices_doubles : AllDoubles coords → AllDoubles ks → AllNumbers (slice_shape coords ks)
   slices_doubles c d =
       let a = slices_accepted coords ks p in
-      record {
-        xs = others coords 0 (omega arith) c;
-        ys = others coords 1 (omega arith) c;
-        knots = given ks (points_in coords) a.sound.long a.room d;
-      }
-
-  -- corners that are read in place are those of the shape
-  pub turn_length : length_by plain (corner_in coords) (points_in coords) ≡ length_in (slice_shape coords ks)
-  turn_length =
-      let n = points_in coords in
-      same_length (corner_in coords) _ n
-      (λ i h.
-      let r = (slices_accepted coords ks p).room in
-      let d : 2 * i ≡ 2 * i + 0 = omega arith in
-      let x : at1 plain coords (2 * i) ≡ at1 plain (every_other coords n 0) i = ap (at1 plain coords) d ∙ sym (other_at coords n 0 i r h) in
-      let y : at1 plain coords (2 * i + 1) ≡ at1 plain (every_other coords n 1) i = sym (other_at coords n 1 i r h) in
-      λ k. record { x = x k; y = y k })
+      let k = typed_slices coords ks a.sound.long a.room c d zero64 zero_double in
+      record { knots = k.knots; xs = k.xs; ys = k.ys }

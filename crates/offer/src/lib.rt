@@ -13,7 +13,7 @@ ghost use Rattle.curve.specs.Record.{by_record, length_in};
 ghost use Rattle.curve.proofs.Recheck.{record_sound, length_finite};
 ghost use Rattle.evaluate.specs.Point.{orders_of};
 ghost use Rattle.evaluate.specs.Piece.{found};
-ghost use Rattle.hull.proofs.Given.{AllDoubles, AllNumbers};
+ghost use Rattle.hull.proofs.Given.{AllDoubles, Doubles, AllNumbers};
 
 use curve::Curve;
 use knots::Form;
@@ -81,6 +81,14 @@ fn are_doubles(a: &[f64])
     let _ = a;
 }
 
+// The same of the type of a record, and of the length that it stores.
+#[inline(always)]
+fn has_doubles(curve: Curve)
+    ensures { Doubles (by_record curve).shape curve.length }
+{
+    let _ = curve;
+}
+
 impl Offer for Curve {
     ghost offered = { by_record };
 
@@ -91,9 +99,7 @@ impl Offer for Curve {
     ghost fine = { length_finite };
 
     fn check_with(&self, wild: bool) -> Result<(), Refusal> {
-        are_doubles(&self.knots);
-        are_doubles(&self.xs);
-        are_doubles(&self.ys);
+        has_doubles(*self);
         self.check_with(wild)
     }
 
@@ -106,7 +112,7 @@ impl Offer for Curve {
     }
 
     fn length(&self) -> f64 {
-        are_doubles(&[self.length]);
+        has_doubles(*self);
         self.length
     }
 

@@ -1,11 +1,10 @@
 // A value with its partials, and the operations on it: the original's `Dv`, with an array of 27 for its vector.
 #![tactic(auto)]
 
-ghost use Rattle.std.specs.Prelude.{◌≡◌, ◌≤◌, ℕ, Float};
-ghost use Rattle.partials.specs.Dual.{count_of, part_of, partials, zip_dv, map_dv, cst_dv, var_dv, add_dv, sub_dv, mul_dv, div_dv, neg_dv, root_dv, overshoot_dv, fine_dv, dual};
+ghost use Rattle.std.specs.Prelude.{◌≡◌, ◌≤◌, ℕ, Float, min};
+ghost use Rattle.partials.specs.Dual.{count_of, part_at, part_of, partials, zip_dv, map_dv, cst_dv, var_dv, add_dv, sub_dv, mul_dv, div_dv, neg_dv, root_dv, overshoot_dv, fine_dv, dual};
 
 use scalar::Scalar;
-use std::array;
 use std::ops::{Add, Div, Mul, Neg, Sub};
 
 // The value is v. Its partial with respect to variable k is g[k], for each k below n; there are no others.
@@ -17,6 +16,16 @@ pub struct Dv {
     pub n: usize,
 }
 
+// Entry k of the first n of g, or of all 27 where n is larger: a missing one reads as +0.0.
+fn part(g: &[f64; 27], n: usize, k: usize) -> f64
+    ensures { result ≡ part_at g.now (min n 27) k }
+{
+    if k < n.min(27) {
+        return g[k];
+    }
+    0.0
+}
+
 // n partials, f of each place, and +0.0 in the others of the 27.
 #[inline]
 fn partials<F: Fn(usize) -> f64>(n: usize, f: F) -> [f64; 27]
@@ -24,20 +33,28 @@ fn partials<F: Fn(usize) -> f64>(n: usize, f: F) -> [f64; 27]
     requires callable { F.IsAlwaysCallable f }
     ensures { (h : ℕ → Float) → ((k : ℕ) (x : Float) → F.post f k x → x ≡ h k) → result ≡ partials n h }
 {
-    array::from_fn(|k| if k < n { f(k) } else { 0.0 })
+    let mut g = [0.0; 27];
+    let front = &mut g[..n];
+    for (k, x) in front.iter_mut().enumerate() {
+        *x = f(k);
+    }
+    g
 }
 
-// The value v, with f of the partials of a and b as far as the longer of the two reaches.
+// The value v, with f of the partials of a and b as far as the longer of the two reaches. It reads copies: of these a processor may take several at
+// once, also past a count, and choose afterwards.
 // Corresponds to spline.rs: Dv::zip.
 #[inline]
 fn zip<F: Fn(f64, f64) -> f64>(v: f64, a: &Dv, b: &Dv, f: F) -> Dv
     requires { F.IsAlwaysCallable f }
     ensures { (h : Float → Float → Float) → ((x y r : Float) → F.post f x y r → r ≡ h x y) → result ≡ zip_dv h v a.now b.now }
 {
+    let (p, q) = (a.g, b.g);
+    let (i, j) = (a.n, b.n);
     let n = a.count().max(b.count());
     Dv {
         v,
-        g: partials(n, |k| f(a.part(k), b.part(k))),
+        g: partials(n, |k| f(part(&p, i, k), part(&q, j, k))),
         n,
     }
 }
@@ -54,10 +71,7 @@ impl Dv {
     pub fn part(&self, k: usize) -> f64
         ensures { result ≡ part_of self.now k }
     {
-        if k < self.count() {
-            return self.g[k];
-        }
-        0.0
+        part(&self.g, self.n, k)
     }
 
     // The constant x: it has no partials.
@@ -94,7 +108,7 @@ impl Dv {
         }
     }
 
-    // The value v, with self's partials times f.
+    // The value v, with self's partials times f. None is asked for past the count, so each is what stands in the room.
     // Corresponds to spline.rs: Dv::map.
     pub fn map(self, v: f64, f: f64) -> Dv
         ensures { result ≡ map_dv v f self }
@@ -102,7 +116,7 @@ impl Dv {
         let n = self.count();
         Dv {
             v,
-            g: partials(n, |k| self.part(k) * f),
+            g: partials(n, |k| part(&self.g, 27, k) * f),
             n,
         }
     }

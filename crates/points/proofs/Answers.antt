@@ -33,6 +33,13 @@ call_fits n order out refusals h =
     let room = room_passed n (numbers_for order) (length out) (length refusals) (row_passed 13 _ [] low.1).0 in
     record { low = ltb-false 4 order low.0; places = room.0; numbers = room.1 }
 
+-- orders that are the same at each parameter leave the same
+pub asked_as : (ts : List Float) (order : ℕ) {f g : Float → List Float} → ((t : Float) → f t ≡ g t)
+    → {out out' : List Float} {refusals refusals' : List ℕ} {n : ℕ} → Asked (numbers_for order) (each_of f ts order) out refusals n out' refusals'
+    → Asked (numbers_for order) (each_of g ts order) out refusals n out' refusals'
+asked_as ts order {f} {g} e {out} {out'} {refusals} {refusals'} {n} a =
+    subst (λ (h : Float → List Float). Asked (numbers_for order) (each_of h ts order) out refusals n out' refusals') (λ i t. e t i) a
+
 -- each parameter by itself
 abbrev alone : Offered → List Float → ℕ → ℕ → List Float → Outcome
 alone who ts order k place = point_answer who (at1 plain ts k) order place

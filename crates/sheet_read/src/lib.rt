@@ -228,7 +228,8 @@ fn end_of(section: Option<Section>) -> usize
 
 // What stands of a sheet in s: each section is looked for where the one before it ends.
 pub fn read_sheet(s: &[u8]) -> Parts
-    ensures { parts_view s.now result ≡ sheet_of s.now }
+    ensures sheet { parts_view s.now result ≡ sheet_of s.now }
+    ensures form { result.form ≡ then_some (form_stands s.now (form_of s.now)) (form_of s.now) }
 {
     let form = read_form(s);
     let points = read_section(s, b"points ", 66, 2, first_line(said(form)).len());

@@ -16,7 +16,7 @@ use Rattle.solve.specs.Rows.{flat, rows_of, Shaped}
 use Rattle.solve.specs.Placed.{laid, rows_by}
 use Rattle.solve.specs.Elimination.{exchanged}
 use Rattle.solve.proofs.Flat.{rest_of, rows_of-flat, flat-of_rows, rows_shaped_of, shaped_set, swapped_shaped, lent_row, back_row, write_cell}
-use Rattle.solve.proofs.Placed.{laid_by, laid-row, laid_shaped, laid_set, laid_step, read-placed, write_placed, laid_start, laid-exchanged}
+use Rattle.solve.proofs.Placed.{laid_by, laid-row, laid_shaped, laid_set, laid_step, read-placed, write_placed, laid_start, next_rows}
 
 -- ---- how many there are
 pub by_long : {A : Type 0} (m : ℕ) (order : List ℕ) (w : List A) → length (rows_by m order w) ≡ m
@@ -113,8 +113,9 @@ pub exchanged_by : {A : Type 0} {m : ℕ} {order : List ℕ} (o : Order m order)
     → rows_by m (exchanged_in order i j) w ≡ exchanged (rows_by m order w) i j
 exchanged_by {A} {m} {order} o w room i j h g =
     let M = rows_by m order w in
-    by_is (exchanged_order o i j h g) w (exchanged M i j) (drop (m * (m + 2)) w)
-    (lies o w room ∙ ap (λ (N : List (List A)). flat N (drop (m * (m + 2)) w)) (laid-exchanged o M (by_long m order w) i j h g))
+    let past = drop (m * (m + 2)) w in
+    by_is (exchanged_order o i j h g) w (exchanged M i j) past
+    (next_rows o i j h g refl M past w (by_long m order w) refl (lies o w room))
     (swapped_shaped M m (m + 2) i j h g (by_each o w room))
 
 -- as an order of rows exchanges them

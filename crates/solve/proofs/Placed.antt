@@ -8,7 +8,7 @@ use borrow.Author.Tests.{eqb-true, eqb-false}
 use lib.Dec.{eqb}
 use lib.ListN.{length, get_or, set, length-set}
 use lib.Seq.{ext_get_or, get_or-set_same, get_or-set_other}
-use Rattle.meaning.specs.Scalar.{Ops}
+use Rattle.meaning.specs.Scalar.{Ops, one64}
 use Rattle.meaning.specs.Search.{listed}
 use Rattle.meaning.proofs.Tests.{by_two}
 use Rattle.meaning.proofs.Filling.{length-listed, nth_listed}
@@ -18,6 +18,7 @@ use Rattle.solve.specs.Rows.{flat, Shaped}
 use Rattle.solve.specs.Placed.{laid}
 use Rattle.solve.specs.Elimination.{exchanged, pivoted}
 use Rattle.solve.specs.Pivot.{pivot}
+use Rattle.solve.specs.Substitution.{remains, answer}
 use Rattle.solve.proofs.Flat.{read_cell, swapped-first, swapped_second, swapped_other}
 use Rattle.solve.proofs.Answers.{write_two}
 
@@ -78,6 +79,12 @@ module _ {A : Type 0} {m : ℕ} {order : List ℕ} (o : Order m order) (M : List
         write_two rest w (place_of order r) e (laid_shaped sh) (o.within r h) i j x y a b
         ∙ ap (λ (N : List (List A)). flat N rest) (laid_step r (λ t. set (set t i x) j y) h sh.count)
 
+    -- an answer as the code works it out
+    pub answer-placed : (p : Ops A) (c d n : ℕ) (x : A) → d < s → x ≡ remains p M r c d n
+        → p.times x (p.over (p.cst one64) (get_or w (place_of order r * s + d) p.off)) ≡ answer p M r c d n
+    unfolding answer
+    answer-placed p c d n x l q = rw (q, read-placed d l p.off)
+
 -- ---- every row at its own place
 pub laid_start : {A : Type 0} (m : ℕ) (M : List (List A)) → m ≤ 66 → length M ≡ m → M ≡ laid m (listed 0 66 (λ r. r)) M
 laid_start m M h l =
@@ -105,13 +112,18 @@ module _ {A : Type 0} {m : ℕ} {order : List ℕ} (o : Order m order) (M : List
           (λ n e. ap (λ (q : ℕ). get_or (exchanged M i j) q []) (other_second i j r e) ∙ swapped-first M i j a b ∙ ap (λ (q : ℕ). get_or M q []) (sym e))
           (λ n k. ap (λ (q : ℕ). get_or (exchanged M i j) q []) (other_none i j r n k) ∙ swapped_other M i j a b r n k)
 
--- ---- the row of column col's pivot, the row best, put first in the order
+-- ---- the row best, as that of column col's pivot, put first in the order
 module _ {m : ℕ} {order next : List ℕ} (o : Order m order) (col best : ℕ) (h : col < m) (g : best < m) (e : next ≡ exchanged_in order col best) where
   -- the buffer holds the exchanged rows
-  pub next_rows : {A : Type 0} (p : Ops A) (M : List (List A)) (rest w : List A) → length M ≡ m → best ≡ pivot p m col M
-      → w ≡ flat (laid m order M) rest → w ≡ flat (laid m next (pivoted p m col M)) rest
-  unfolding pivoted
-  next_rows p M rest w l is q =
+  pub next_rows : {A : Type 0} (M : List (List A)) (rest w : List A) → length M ≡ m → {R : List (List A)} → R ≡ exchanged M col best
+      → w ≡ flat (laid m order M) rest → w ≡ flat (laid m next R) rest
+  next_rows M rest w l is q =
       q
       ∙ ap (λ (N : List (List _)). flat N rest) (laid-exchanged o M l col best h g)
-      ∙ (λ i. flat (laid m (sym e i) (exchanged M col (is i))) rest)
+      ∙ (λ i. flat (laid m (sym e i) (sym is i)) rest)
+
+  -- and so those with the pivot's row in row col
+  pub pivot_rows : {A : Type 0} (p : Ops A) (M : List (List A)) (rest w : List A) → length M ≡ m → best ≡ pivot p m col M
+      → w ≡ flat (laid m order M) rest → w ≡ flat (laid m next (pivoted p m col M)) rest
+  unfolding pivoted
+  pivot_rows p M rest w l is q = next_rows M rest w l (ap (exchanged M col) (sym is)) q

@@ -19,7 +19,8 @@ use Rattle.meaning.proofs.Tests.{by_two}
 use Rattle.partials.specs.declared.Dv.{Dv}
 use Rattle.partials.specs.Dual.{count_of, part_of, partials, zip_dv, sub_dv, mul_dv, fine_dv}
 use Rattle.cells.specs.Cell.{value_of, headed}
-use Rattle.cells.proofs.Values.{partials_same, value_same, value-count, value-at, value_part}
+use Rattle.partials.proofs.Laid.{partials_same}
+use Rattle.cells.proofs.Values.{value_same, value-count, value-at, value_part}
 use Rattle.solve_partials.specs.Sweep.{Swept}
 use Rattle.solve_partials.specs.Held.{numbered, valued, Clean, less_product}
 

@@ -7,7 +7,7 @@ use lib.ListN.{length, get_or, take, drop, length-drop}
 use lib.Seq.{get_or-take, get_or-drop, length-take-le}
 use lib.Ieee.{Float, nan}
 use Rattle.cells.specs.Cell.{value_of}
-use Rattle.cells.proofs.Values.{partials_laid}
+use Rattle.partials.proofs.Laid.{partials_laid}
 use Rattle.cells.proofs.read_cell.Goals as goal
 
 pub returns : goal.returns

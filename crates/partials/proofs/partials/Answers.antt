@@ -1,25 +1,16 @@
--- `partials::partials` meets its contract: each place is made by f, or is past the n.
-use mathlib.Core.Path.{◌∙◌, sym}
-use mathlib.Core.Bool.{cond}
-use lib.Dec.{ltb}
-use lib.Ieee.{nan}
-use borrow.Author.Rules.{rules}
-use borrow.Author.Tests.{ltb-true, ltb-false}
-use Rattle.meaning.specs.Scalar.{zero64}
-use Rattle.meaning.proofs.Tests.{by_two}
-use Rattle.meaning.proofs.Filling.{set_front}
-use Rattle.meaning.proofs.Made.{made_of}
-use Rattle.partials.specs.Dual.{partials}
+-- `partials::partials` meets its contract: each turn asks f for one partial.
+use native.Mathlib.Omega.{arith}
+use Rattle.meaning.proofs.Filling.{filled}
+use Rattle.partials.proofs.Laid.{partials_laid}
 use Rattle.partials.proofs.partials.Goals as goal
 
+pub loop-k-preserved : goal.loop-k-preserved
+loop-k-preserved g c =
+    let i = c.loop-k.invariant in
+    ((λ h p. filled (i.0 h p) (omega (arith, c.loop-k-test.true, i.1)) (p _ _ c.f.ensures)), i.1)
+
 pub returns : goal.returns
-unfolding partials
 returns g c h p =
-    made_of (λ i. cond (ltb i c.args.n) (h i) zero64) nan c.from_fn.ensures.items
-    (λ k y q e. (
-      search rules,
-      by_two (ltb k c.args.n)
-          (λ t. let less = ltb-true k c.args.n t in rw t (search (rules, p)))
-          (λ t. let past = ltb-false k c.args.n t in rw t (search rules)),
-    ))
-    ∙ sym (set_front h zero64 27 c.args.n c.requires.few)
+    let i = c.loop-k.invariant in
+    let f = i.0 h p in
+    partials_laid c.args.n h c.loop-k.front c.requires.few f.long (λ j b. f.same j (omega (arith, c.loop-k-test.false, i.1)))

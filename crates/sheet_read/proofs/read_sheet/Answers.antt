@@ -10,7 +10,7 @@ read_section-parameters-requires-clause-fact_2 c =
     rw c.end_of-2.ensures
     (knots_reach _ _ _ _ (rw c.first_line.ensures at c.read_section-points.ensures) (rw c.end_of.ensures at c.read_section-knots.ensures))
 
-pub returns : goal.returns
-returns c =
+pub returns-clause-sheet : goal.returns-clause-sheet
+returns-clause-sheet c =
     parts_are _ c.read_form-form.ensures _ _ _ (rw (c.first_line.ensures, c.said.ensures) at c.read_section-points.ensures)
     (rw c.end_of.ensures at c.read_section-knots.ensures) (rw c.end_of-2.ensures at c.read_section-parameters.ensures)

@@ -2,4 +2,4 @@
 use Rattle.offer.proofs.CurveOffer.check_with.Goals as goal
 
 pub returns-clause-doubles : goal.returns-clause-doubles
-returns-clause-doubles c = λ p. record { knots = c.are_doubles.ensures; xs = c.are_doubles-2.ensures; ys = c.are_doubles-3.ensures }
+returns-clause-doubles c = λ p. let d = c.has_doubles.ensures in record { knots = d.knots; xs = d.xs; ys = d.ys }

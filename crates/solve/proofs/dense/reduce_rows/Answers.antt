@@ -7,13 +7,14 @@ use lib.ListN.{length, get_or, set}
 use Rattle.solve.specs.Left.{Becomes}
 use Rattle.solve.specs.Elimination.{reduced}
 use Rattle.solve.specs.Verdicts.{reduced_ok}
-use Rattle.solve.proofs.Reducing.{reducing_start, reducing_next, reducing_end}
+use Rattle.solve.proofs.Reducing.{reducing_start, reducing_by, reducing_end}
 use Rattle.solve.proofs.dense.reduce_rows.Goals as goal
 
 pub loop-r-init : goal.loop-r-init
 loop-r-init g c =
-    let M = g.R.Rows.rows c.args.rows.now in (
-      reducing_start g.R.Rows.ops (length M) c.args.col M refl c.requires,
+    let M = g.R.Rows.rows c.args.rows.now in
+    let m = length M in (
+      reducing_start g.R.Rows.ops m m c.args.col (get_or M c.args.col []) M refl c.requires,
       c.pivot_row-pivot.ensures c.requires,
       g.met.R.Rows.again c.args.rows.now,
       c.count-m.ensures.count,
@@ -35,7 +36,7 @@ loop-r-preserved g c =
     (λ (m : ℕ). Becomes (λ K. set K l.r (reduced o m a.col (get_or K a.col []) (get_or K l.r [])))
     (λ K. reduced_ok o m a.col (get_or K a.col []) (get_or K l.r [])) N (g.R.Rows.rows c.reduce.new.self) c.reduce.result)
     many (call.rows i.1 i.0.below there) in (
-      reducing_next o (length M) a.col M refl i.0 h does c.both-fine.ensures,
+      reducing_by o (length M) (length M) a.col (get_or M a.col []) M refl refl i.0 h does c.both-fine.ensures,
       call.kept i.1 i.0.below there,
       g.met.R.Rows.along a.rows.now l.rows c.reduce.new.self i.2 call.same,
       i.3,
@@ -44,8 +45,9 @@ loop-r-preserved g c =
 pub returns : goal.returns
 returns g c =
     let M = g.R.Rows.rows c.args.rows.now in
+    let m = length M in
     let i = c.loop-r.invariant in
     record {
-      rows = reducing_end g.R.Rows.ops (length M) c.args.col M refl i.0 (omega (arith, c.loop-r-test.false, i.3));
+      rows = reducing_end g.R.Rows.ops m m c.args.col (get_or M c.args.col []) M refl i.0 (omega (arith, c.loop-r-test.false, i.3));
       same = i.2;
     }
